@@ -1,0 +1,4 @@
+// The model text: what a text describes, which question refuses it, and the readers of its fields.
+// It may use the model crate.
+pub mod fault;
+pub mod word;
