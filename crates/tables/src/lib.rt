@@ -1,0 +1,4 @@
+// The tables that hold a loaded model: a source of rows in flat arrays, with its text loaded and written.
+// It may use the model and text crates.
+pub mod flat;
+pub mod tables;
