@@ -1,2 +1,3 @@
 pub mod Flats
+pub mod Drafts
 pub mod Keeps

@@ -1,4 +1,5 @@
 // The tables that hold a loaded model: a source of rows in flat arrays, with its text loaded and written.
 // It may use the model and text crates.
+mod draft;
 pub mod flat;
 pub mod tables;
