@@ -1,9 +1,10 @@
 -- A text is cut into lines, and a line into fields.
+use mathlib.Core.Path.{_≡_}
 use mathlib.Core.Bool.{cond}
 use mathlib.Core.List.{List, [], _∷_, _++_}
-use Prim.Native.Nat.{ℕ}
+use Prim.Native.Nat.{ℕ, _≤_, _<_}
 use lib.Dec.{eqb}
-use lib.ListN.{getD}
+use lib.ListN.{length, getD}
 
 -- one more byte in front of the first piece
 abbrev pub onto : ℕ → List (List ℕ) → List (List ℕ)
@@ -46,3 +47,9 @@ parted (f ∷ g ∷ fs) = f ++ (9 ∷ parted (g ∷ fs))
 abbrev pub spelled : List Line → List ℕ
 spelled [] = []
 spelled (l ∷ ls) = parted l ++ (10 ∷ spelled ls)
+
+-- the first piece of some bytes has r bytes: there is no `sep` among them, and one comes next, unless the bytes end there
+pub record FirstPiece (bytes : List ℕ) (sep r : ℕ) : Type 0 where
+  pub within : r ≤ length bytes
+  pub before : (k : ℕ) → k < r → getD bytes k 0 ≡ sep → ⊥
+  pub here : r < length bytes → getD bytes r 0 ≡ sep
