@@ -1,2 +1,4 @@
 pub mod Nest
 pub mod Cutting
+pub mod SoundAsks
+pub mod SoundFields
