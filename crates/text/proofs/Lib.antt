@@ -2,3 +2,8 @@ pub mod Nest
 pub mod Cutting
 pub mod SoundAsks
 pub mod SoundFields
+pub mod CompleteStates
+pub mod CompleteFields
+pub mod CompleteTold
+pub mod CompleteCuts
+pub mod Complete
