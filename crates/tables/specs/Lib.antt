@@ -1,3 +1,4 @@
 pub mod Flats
 pub mod Drafts
 pub mod Keeps
+pub mod KeepsLaws
