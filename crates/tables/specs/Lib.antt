@@ -1,4 +1,5 @@
 pub mod Flats
 pub mod Drafts
+pub mod Readings
 pub mod Keeps
 pub mod KeepsLaws

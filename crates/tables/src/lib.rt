@@ -2,4 +2,5 @@
 // It may use the model and text crates.
 mod draft;
 pub mod flat;
+mod progress;
 pub mod tables;
