@@ -7,3 +7,4 @@ pub mod CompleteFields
 pub mod CompleteTold
 pub mod CompleteCuts
 pub mod Complete
+pub mod Spellings
