@@ -5,3 +5,4 @@ pub mod Contents
 pub mod Texts
 pub mod Questions
 pub mod Refusals
+pub mod Faults
