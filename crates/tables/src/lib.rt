@@ -2,5 +2,6 @@
 // It may use the model and text crates.
 mod draft;
 pub mod flat;
+mod line;
 mod progress;
 pub mod tables;
