@@ -1,3 +1,4 @@
+pub mod Flattening
 pub mod Keeping
 pub mod Told
 pub mod LineFaults
