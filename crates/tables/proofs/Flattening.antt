@@ -1,5 +1,5 @@
 -- The flat arrays of a list of states, and that they hold these states.
-use mathlib.Core.Path.{_≡_, refl, sym, ap, ap₂, _∙_}
+use mathlib.Core.Path.{_≡_, refl, sym, ap, _∙_}
 use mathlib.Core.Bool.{Bool}
 use mathlib.Core.List.{List, [], _∷_, _++_, map}
 use Prim.Native.Nat.{ℕ, zero, suc, _+_, _-_, _≤_, _<_}
@@ -94,14 +94,19 @@ piece-row rs k h = rw (branches-joined, add-one) (sym (between-marks (λ r. r) r
 part-counted : {X : Type 0} (f : ℕ → X) (xs : List X) (d : X) → ((k : ℕ) → k < length xs → getD xs k d ≡ f k) → (a n : ℕ) → a + n ≤ length xs → map f (counting a n) ≡ take n (drop a xs)
 part-counted f xs d is a n h =
     let counted = length-map-counting f a n in
-    ext-getD d (map f (counting a n)) (take n (drop a xs)) (rw (length-map-counting, length-take, length-drop) (omega arith)) (λ i l. getD-map-counting f a n i (a + i) d (omega arith) refl ∙ sym (is (a + i) (omega arith)) ∙ sym (getD-drop a xs i d) ∙ sym (getD-take n (drop a xs) i d (omega arith)))
+    let lengths : length (map f (counting a n)) ≡ length (take n (drop a xs)) = rw (length-map-counting, length-take, length-drop) (omega arith) in
+    let part : (i : ℕ) → i < n → getD (take n (drop a xs)) i d ≡ f (a + i) = λ i l. getD-take n (drop a xs) i d l ∙ getD-drop a xs i d ∙ is (a + i) (omega arith) in
+    ext-getD d (map f (counting a n)) (take n (drop a xs)) lengths (λ i l. getD-map-counting f a n i (a + i) d (omega arith) refl ∙ sym (part i (omega arith)))
 
 -- the choices of a state stand between two neighbouring starts
 choices-held : (ss : List State) (k : ℕ) → k < length ss → map (piece (offsets-of ss) (branches-of ss)) (counting (getD (starts-of ss) k 0) (getD (starts-of ss) (k + 1) 0 - getD (starts-of ss) k 0)) ≡ getD ss k no-state .choices
 choices-held ss k h =
     let up = rising (λ s. s .choices) ss 0 k h in
     let whole = ap length (choices-joined ss) in
-    rw add-one (part-counted (piece (offsets-of ss) (branches-of ss)) (all-choices ss) [] (piece-row (all-choices ss)) (getD (starts-of ss) k 0) (getD (starts-of ss) (suc k) 0 - getD (starts-of ss) k 0) (omega arith) ∙ rw choices-joined (between-marks (λ s. s .choices) ss [] k no-state h))
+    let start : ℕ = getD (starts-of ss) k 0 in
+    let count : ℕ = getD (starts-of ss) (suc k) 0 - start in
+    let counted = part-counted (piece (offsets-of ss) (branches-of ss)) (all-choices ss) [] (piece-row (all-choices ss)) start count (omega arith) in
+    rw add-one (counted ∙ rw choices-joined (between-marks (λ s. s .choices) ss [] k no-state h))
 
 -- a state of the arrays is the state of that place
 state-held : (ss : List State) (k : ℕ) → k < length ss → getD ss k no-state ≡ flat-state (labels-in ss) (starts-of ss) (offsets-of ss) (branches-of ss) k
@@ -112,7 +117,9 @@ state-held ss k h = λ i. record {
 
 -- the arrays hold the states
 pub unflat : (ss : List State) → flat-states (labels-in ss) (starts-of ss) (offsets-of ss) (branches-of ss) ≡ ss
-unflat ss = sym (fill-by-all (flat-state (labels-in ss) (starts-of ss) (offsets-of ss) (branches-of ss)) ss (length (labels-in ss)) no-state (sym (length-map ss (λ s. s .labels))) (λ k h. state-held ss k (omega (arith, length-map ss (λ s. s .labels)))))
+unflat ss =
+    let count = length-map ss (λ s. s .labels) in
+    sym (fill-by-all (flat-state (labels-in ss) (starts-of ss) (offsets-of ss) (branches-of ss)) ss (length (labels-in ss)) no-state (sym count) (λ k h. state-held ss k (omega arith)))
 
 -- there is one start more than states, and one offset more than choices
 pub length-starts : (ss : List State) → length (starts-of ss) ≡ length ss + 1

@@ -1,21 +1,17 @@
 -- A content within the limits passes the test of the limits. (That what passes it is within them is `keeps-within`.)
 use mathlib.Core.Path.{_≡_, refl}
-use mathlib.Core.Bool.{true, _&&_}
+use mathlib.Core.Bool.{true}
 use mathlib.Core.List.{List, [], _∷_}
-use Prim.Native.Nat.{ℕ, suc, _+_, _≤_, _<_}
+use Prim.Native.Nat.{ℕ, suc, _+_, _<_}
 use native.Mathlib.Omega.{arith}
 use lib.ListN.{length, getD}
 use Rattle.std.proofs.shelf.Tests.{and-from, le-leb, lt-ltb, eq-eqb}
 use Rattle.model.specs.Mdp.{Row, total, Ascends, LawfulRow, Each, Lawful}
-use Rattle.text.specs.Fields.{between}
 use Rattle.text.specs.Contents.{State, Content, no-state, model-of, all-choices, all-branches}
 use Rattle.text.specs.Texts.{text-of, Within}
+use Rattle.text.proofs.CompleteFields.{between-from}
 use Rattle.tables.specs.Keeps.{row-ascends, rows-keep, states-keep, keeps}
 use Rattle.tables.specs.KeepsLaws.{StateKept}
-
--- a number in a range passes the test of it
-between-from : (low high x : ℕ) → low ≤ x → x ≤ high → between low high x ≡ true
-between-from low high x l h = and-from _ _ (le-leb low x l) (le-leb x high h)
 
 -- a row that ascends passes the test
 ascends-from : (n low : ℕ) (r : Row) → Ascends n low r → row-ascends n low r ≡ true

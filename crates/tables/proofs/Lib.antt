@@ -1,4 +1,5 @@
 pub mod Flattening
 pub mod Keeping
 pub mod Told
+pub mod ToldFlat
 pub mod LineFaults
