@@ -1,0 +1,4 @@
+pub mod Ladders
+pub mod Laws
+pub mod Refusals
+pub mod Makes
