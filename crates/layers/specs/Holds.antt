@@ -1,0 +1,28 @@
+-- What a hold layer means.
+use mathlib.Core.List.{List, [], _∷_}
+use mathlib.Core.Bool.{Bool, false, cond, _&&_}
+use Prim.Native.Nat.{ℕ}
+use lib.Dec.{ltb, eqb}
+use lib.ListN.{getD}
+use Rattle.model.specs.declared.branch.Branch.{Branch}
+use Rattle.model.specs.Mdp.{Mdp, Row}
+
+-- the one branch of a held state s: back to itself with the whole denominator d
+abbrev pub back : ℕ → ℕ → Branch
+back d s = record { target = s; weight = d }
+
+-- the one choice of a held state
+abbrev pub stay : ℕ → ℕ → List Row
+stay d s = (back d s ∷ []) ∷ []
+
+-- the model m with the state s held: s only stays, and the rest is as it was
+abbrev pub held : ℕ → Mdp → Mdp
+held s m = record { states = m .states; denominator = m .denominator; labels = m .labels; choices = λ t. cond (eqb t s) (stay (m .denominator) t) (m .choices t) }
+
+-- is there a state s in m, and does its flag say that it is held?
+abbrev pub is-held : Mdp → List Bool → ℕ → Bool
+is-held m flags s = ltb s (m .states) && getD flags s false
+
+-- the model m with every state held whose flag says so
+abbrev pub held-model : Mdp → List Bool → Mdp
+held-model m flags = record { states = m .states; denominator = m .denominator; labels = m .labels; choices = λ s. cond (is-held m flags s) (stay (m .denominator) s) (m .choices s) }
