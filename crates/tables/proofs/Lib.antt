@@ -3,3 +3,4 @@ pub mod Keeping
 pub mod Told
 pub mod ToldFlat
 pub mod LineFaults
+pub mod Spans

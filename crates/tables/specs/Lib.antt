@@ -3,3 +3,4 @@ pub mod Drafts
 pub mod Readings
 pub mod Keeps
 pub mod KeepsLaws
+pub mod Spans

@@ -4,4 +4,5 @@ mod draft;
 pub mod flat;
 mod line;
 mod progress;
+pub mod source;
 pub mod tables;
