@@ -4,3 +4,4 @@ pub mod Told
 pub mod ToldFlat
 pub mod LineFaults
 pub mod Spans
+pub mod FreshLaws

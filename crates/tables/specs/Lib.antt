@@ -1,6 +1,7 @@
 pub mod Flats
 pub mod Drafts
 pub mod Readings
+pub mod Fresh
 pub mod Keeps
 pub mod KeepsLaws
 pub mod Spans

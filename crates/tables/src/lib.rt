@@ -4,5 +4,6 @@ mod draft;
 pub mod flat;
 mod line;
 mod progress;
+pub mod fresh;
 pub mod source;
 pub mod tables;
