@@ -8,3 +8,4 @@ pub mod CompleteTold
 pub mod CompleteCuts
 pub mod Complete
 pub mod Spellings
+pub mod SoundCuts
