@@ -9,3 +9,4 @@ pub mod CompleteCuts
 pub mod Complete
 pub mod Spellings
 pub mod SoundCuts
+pub mod SoundLines
