@@ -10,3 +10,4 @@ pub mod Complete
 pub mod Spellings
 pub mod SoundCuts
 pub mod SoundLines
+pub mod SoundRest
