@@ -11,3 +11,4 @@ pub mod Spellings
 pub mod SoundCuts
 pub mod SoundLines
 pub mod SoundRest
+pub mod Sound

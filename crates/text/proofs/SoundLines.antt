@@ -30,18 +30,20 @@ some-word ws (Some w) e = (w, refl, e)
 pub on-true : (ws : List Word) (l : Line) (answer : Bool) (w : Word) → word l ≡ Some w → listed w ws ≡ true → on ws l answer ≡ true → answer ≡ true
 on-true ws l answer w e h t = sym (cond-true (is ws l) answer true (ap (one-of ws) e ∙ h)) ∙ t
 
--- a line of one, two or three fields is the list of them
+-- a line of one field is the list of it
 one-field : (l : Line) → length l ≡ 1 → l ≡ field 0 l ∷ []
 one-field [] e = absurd (omega arith)
 one-field (a ∷ []) e = refl
 one-field (a ∷ b ∷ l) e = absurd (omega arith)
 
+-- a line of two fields is the list of them
 two-fields : (l : Line) → length l ≡ 2 → l ≡ field 0 l ∷ field 1 l ∷ []
 two-fields [] e = absurd (omega arith)
 two-fields (a ∷ []) e = absurd (omega arith)
 two-fields (a ∷ b ∷ []) e = refl
 two-fields (a ∷ b ∷ c ∷ l) e = absurd (omega arith)
 
+-- a line of three fields is the list of them
 three-fields : (l : Line) → length l ≡ 3 → l ≡ field 0 l ∷ field 1 l ∷ field 2 l ∷ []
 three-fields [] e = absurd (omega arith)
 three-fields (a ∷ []) e = absurd (omega arith)

@@ -128,8 +128,8 @@ rows-any word.End rs follows = tt
 row-open : (w : Word) (l : Line) (before : List Line) (k : Line) (r : Row) → After w l before word.Branch k → RowFits word.Branch (k ∷ l ∷ before) r → RowFits w (l ∷ before) (branch-of k ∷ r)
 row-open word.Mdp l before k r a fits = never _ (a .follows) refl
 row-open word.State l before k r a fits = never _ (a .follows) refl
-row-open word.Choice l before k r a fits = let s = row-sum-more word.Branch k (l ∷ before) (a .this) in omega arith
-row-open word.Branch l before k r a fits = let s = row-sum-more word.Branch k (l ∷ before) (a .this) in omega arith
+row-open word.Choice l before k r a fits = let sum = row-sum-more word.Branch k (l ∷ before) (a .this) in omega arith
+row-open word.Branch l before k r a fits = let sum = row-sum-more word.Branch k (l ∷ before) (a .this) in omega arith
 row-open word.End l before k r a fits = tt
 
 -- the end, and no line after it
@@ -152,11 +152,11 @@ end-rest w l before k a =
 state-rest : (w : Word) (l : Line) (before : List Line) (k : Line) (ks : List Line) (n : Nested) → After w l before word.State k → Rest word.State (k ∷ l ∷ before) ks n → Rest w (l ∷ before) (k ∷ ks) (nest-line (Some word.State) k n)
 state-rest w l before k ks n a r =
     let i = is-state (l ∷ before) k (a .this) (a .passed) in
-    let cs = count-more word.State word.State k (l ∷ before) (a .this) in
-    let cc = count-more word.Choice word.State k (l ∷ before) (a .this) in
-    let cb = count-more word.Branch word.State k (l ∷ before) (a .this) in
-    let lc = length-append (n .rows) (all-choices (n .states)) in
-    let lb = all-branches-append (n .rows) (all-choices (n .states)) in
+    let states = count-more word.State word.State k (l ∷ before) (a .this) in
+    let choices = count-more word.Choice word.State k (l ∷ before) (a .this) in
+    let branches = count-more word.Branch word.State k (l ∷ before) (a .this) in
+    let more-choices = length-append (n .rows) (all-choices (n .states)) in
+    let more-branches = all-branches-append (n .rows) (all-choices (n .states)) in
     record {
       told = ap₂ (λ x xs. x ∷ xs) (i .line) (r .told ∙ ap (λ row. row-lines row ++ (choices-lines (n .rows) ++ (states-lines (n .states) ++ (end-line ∷ [])))) (r .row-fits) ∙ sym (append-assoc (choices-lines (n .rows)) (states-lines (n .states)) (end-line ∷ [])));
       all-states = omega (arith, r .all-states);
@@ -173,11 +173,11 @@ state-rest w l before k ks n a r =
 choice-rest : (w : Word) (l : Line) (before : List Line) (k : Line) (ks : List Line) (n : Nested) → After w l before word.Choice k → Rest word.Choice (k ∷ l ∷ before) ks n → Rest w (l ∷ before) (k ∷ ks) (nest-line (Some word.Choice) k n)
 choice-rest w l before k ks n a r =
     let i = is-choice (l ∷ before) k (a .this) (a .passed) in
-    let cs = count-more word.State word.Choice k (l ∷ before) (a .this) in
-    let cc = count-more word.Choice word.Choice k (l ∷ before) (a .this) in
-    let cb = count-more word.Branch word.Choice k (l ∷ before) (a .this) in
-    let lb = length-append (n .row) (all-branches (n .rows)) in
-    let s = row-sum-more word.Choice k (l ∷ before) (a .this) in
+    let states = count-more word.State word.Choice k (l ∷ before) (a .this) in
+    let choices = count-more word.Choice word.Choice k (l ∷ before) (a .this) in
+    let branches = count-more word.Branch word.Choice k (l ∷ before) (a .this) in
+    let more-branches = length-append (n .row) (all-branches (n .rows)) in
+    let sum = row-sum-more word.Choice k (l ∷ before) (a .this) in
     record {
       told = ap₂ (λ x xs. x ∷ xs) (i .line) (r .told ∙ sym (append-assoc (row-lines (n .row)) (choices-lines (n .rows)) (states-lines (n .states) ++ (end-line ∷ []))));
       all-states = omega (arith, r .all-states);
@@ -194,9 +194,9 @@ choice-rest w l before k ks n a r =
 branch-rest : (w : Word) (l : Line) (before : List Line) (k : Line) (ks : List Line) (n : Nested) → After w l before word.Branch k → Rest word.Branch (k ∷ l ∷ before) ks n → Rest w (l ∷ before) (k ∷ ks) (nest-line (Some word.Branch) k n)
 branch-rest w l before k ks n a r =
     let i = is-branch (l ∷ before) k (a .this) (a .passed) in
-    let cs = count-more word.State word.Branch k (l ∷ before) (a .this) in
-    let cc = count-more word.Choice word.Branch k (l ∷ before) (a .this) in
-    let cb = count-more word.Branch word.Branch k (l ∷ before) (a .this) in
+    let states = count-more word.State word.Branch k (l ∷ before) (a .this) in
+    let choices = count-more word.Choice word.Branch k (l ∷ before) (a .this) in
+    let branches = count-more word.Branch word.Branch k (l ∷ before) (a .this) in
     record {
       told = ap₂ (λ x xs. x ∷ xs) (i .line) (r .told);
       all-states = omega (arith, r .all-states);
