@@ -1,13 +1,26 @@
 -- A text that describes a content within the limits is accepted, and describes no other.
-use mathlib.Core.Path.{_≡_, sym, ap, _∙_}
-use mathlib.Core.List.{List}
-use Prim.Native.Nat.{ℕ}
+use mathlib.Core.Path.{_≡_, refl, sym, ap, _∙_}
+use mathlib.Core.List.{List, []}
+use Prim.Native.Nat.{ℕ, _-_}
+use lib.ListN.{length, getD}
+use Rattle.std.specs.declared.option.Option.the-variants.{None}
+use Rattle.std.proofs.shelf.Tests.{le-leb, eq-eqb}
 use Rattle.text.specs.Cuts.{lines}
 use Rattle.text.specs.Contents.{Content}
-use Rattle.text.specs.Texts.{Describes}
+use Rattle.text.specs.Texts.{text-of, Describes}
+use Rattle.text.specs.Refusals.{lines-refusal, refusal}
 use Rattle.text.proofs.Nest.{content-of}
-use Rattle.text.proofs.CompleteCuts.{lines-spelled}
+use Rattle.text.proofs.CompleteCuts.{lines-spelled, text-ended}
 use Rattle.text.proofs.CompleteTold.{told}
+use Rattle.text.proofs.CompleteWalk.{passes}
+
+-- a text that describes a content is accepted
+pub accepted : (text : List ℕ) (c : Content) → Describes text c → refusal text ≡ None
+accepted text c h =
+    let short = le-leb (length (text-of c)) 65536 (h .within .short) in
+    let whole = eq-eqb (getD (text-of c) (length (text-of c) - 1) 0) 10 (text-ended c) in
+    let lawful = ap (lines-refusal [] 1) (lines-spelled c (h .within)) ∙ passes c (h .within) in
+    ap refusal (h .is) ∙ rw (short, whole, lawful) refl
 
 -- the lines of the text tell the content that it describes
 pub described : (text : List ℕ) (c : Content) → Describes text c → content-of (lines text) ≡ c

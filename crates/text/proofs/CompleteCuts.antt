@@ -1,11 +1,11 @@
 -- Cutting the text of a content gives its lines back.
 use mathlib.Core.Path.{_≡_, refl, sym, ap, ap₂, _∙_}
-use mathlib.Core.Bool.{Bool, true, false, cond}
 use mathlib.Core.List.{List, [], _∷_, _++_}
-use Prim.Native.Nat.{ℕ, _+_, _≤_, _<_, _^_}
+use Prim.Native.Nat.{ℕ, _-_, _≤_, _<_, _^_}
 use native.Mathlib.Omega.{arith}
 use lib.Dec.{eqb}
-use lib.ListN.{length}
+use lib.ListN.{length, getD}
+use Rattle.std.proofs.shelf.Lists.{append-assoc, getD-push, length-push}
 use Rattle.std.proofs.shelf.Tests.{cond-true, cond-false, eq-eqb, ne-eqb}
 use Rattle.model.specs.declared.branch.Branch.{Branch}
 use Rattle.model.specs.Mdp.{Row, Each}
@@ -88,3 +88,18 @@ clean-content c h =
 -- the text of a content within the limits is cut into its lines
 pub lines-spelled : (c : Content) → Within c → lines (text-of c) ≡ content-lines c
 lines-spelled c h = lines-clean (content-lines c) (clean-content c h)
+
+-- the bytes of lines end with an LF
+ended : (ls : List Line) → 1 ≤ length ls → (front : List ℕ) × (spelled ls ≡ front ++ (10 ∷ []))
+ended [] h = absurd (omega (arith, h))
+ended (l ∷ []) h = (parted l, refl)
+ended (l ∷ k ∷ ls) h =
+    let more = ended (k ∷ ls) (omega arith) in
+    (parted l ++ (10 ∷ more .0), ap (λ z. parted l ++ (10 ∷ z)) (more .1) ∙ sym (append-assoc (parted l) (10 ∷ more .0) (10 ∷ [])))
+
+-- so the last byte of a content's text is an LF
+pub text-ended : (c : Content) → getD (text-of c) (length (text-of c) - 1) 0 ≡ 10
+text-ended c =
+    let whole = ended (content-lines c) (omega arith) in
+    let front = whole .0 in
+    ap (λ t. getD t (length t - 1) 0) (whole .1) ∙ getD-push front 10 0 (length (front ++ (10 ∷ [])) - 1) (omega (arith, length-push front 10))

@@ -6,6 +6,8 @@ pub mod CompleteStates
 pub mod CompleteFields
 pub mod CompleteTold
 pub mod CompleteCuts
+pub mod CompleteFits
+pub mod CompleteWalk
 pub mod Complete
 pub mod Spellings
 pub mod SoundCuts
