@@ -4,6 +4,7 @@ mod draft;
 pub mod flat;
 mod line;
 mod progress;
+mod step;
 pub mod fresh;
 pub mod source;
 pub mod tables;
