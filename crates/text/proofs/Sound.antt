@@ -20,10 +20,11 @@ use Rattle.text.specs.Texts.{end-line, row-lines, choices-lines, states-lines,
 use Rattle.text.specs.Questions.{word, number}
 use Rattle.text.specs.Refusals.{lines-refusal, refusal}
 use Rattle.text.proofs.Nest.{Nested, nest-line, nest, content-of}
+use Rattle.text.proofs.CompleteStates.{LawfulState}
 use Rattle.text.proofs.SoundAsks.{some-none, ask-next-none, or-next-none, passes}
 use Rattle.text.proofs.SoundCuts.{spelled-lines}
 use Rattle.text.proofs.SoundLines.{some-word, IsHeader, is-header}
-use Rattle.text.proofs.SoundRest.{LawfulState, Rest, count-more, rest}
+use Rattle.text.proofs.SoundRest.{Rest, count-more, rest}
 
 -- what holds of each element holds of one
 each-at : {A : Type 0} (P : A → Type 0) (xs : List A) (i : ℕ) (d : A) → Each P xs → i < length xs → P (getD xs i d)
@@ -46,10 +47,10 @@ lawful-content c n d few each =
       few-states = n .1;
       some-unit = d .0;
       few-units = d .1;
-      some-choice = λ s h. each-at (LawfulState _ _) (c .states) s no-state each h .some;
+      some-choice = λ s h. each-at (LawfulState _ _) (c .states) s no-state each h .some-choice;
       few-choices = λ s. omega (arith, choices-of-one (c .states) s, few);
       rows = λ s. ⊎-elim (λ h. each-at (LawfulState _ _) (c .states) s no-state each h .rows) (λ h. subst (λ t. Each (LawfulRow (length (c .states)) (c .denominator)) (t .choices)) (sym (past s h)) tt) (cases-lt s (length (c .states)));
-      sixteen-letters = λ s. ⊎-elim (λ h. each-at (LawfulState _ _) (c .states) s no-state each h .sixteen) (λ h. ap (λ t. length (t .labels)) (past s h)) (cases-lt s (length (c .states)));
+      sixteen-letters = λ s. ⊎-elim (λ h. each-at (LawfulState _ _) (c .states) s no-state each h .labels) (λ h. ap (λ t. length (t .labels)) (past s h)) (cases-lt s (length (c .states)));
       none-past = λ s h. ap (λ t. t .choices) (past s h);
       no-labels-past = λ s h. ap (λ t. t .labels) (past s h);
     }

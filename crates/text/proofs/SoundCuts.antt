@@ -6,17 +6,13 @@ use native.Mathlib.Omega.{arith}
 use lib.Dec.{eqb}
 use lib.ListN.{length, getD}
 use Rattle.std.proofs.shelf.Tests.{eqb-true, cond-both}
+use Rattle.text.proofs.Cutting.{some-field}
 use Rattle.text.specs.Cuts.{onto, cut, fields, each-fields, lines, parted, spelled}
 
 -- there is a piece after any byte
 some-onto : (x : ℕ) (ps : List (List ℕ)) → 1 ≤ length (onto x ps)
 some-onto x [] = omega arith
 some-onto x (p ∷ ps) = omega arith
-
--- a line has a field
-pub some-field : (bytes : List ℕ) → 1 ≤ length (fields bytes)
-some-field [] = omega arith
-some-field (x ∷ xs) = cond-both (eqb x 9) _ _ (λ ps. 1 ≤ length ps) (λ e. omega arith) (λ e. some-onto x (fields xs))
 
 -- one more byte in front of the first field
 parted-onto : (x : ℕ) (ps : List (List ℕ)) → parted (onto x ps) ≡ x ∷ parted ps

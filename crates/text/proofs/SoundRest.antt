@@ -19,15 +19,10 @@ use Rattle.text.specs.Texts.{end-line, row-lines, choices-lines, states-lines}
 use Rattle.text.specs.Questions.{word, number, states-given, denominator-given, count, row-sum, closed}
 use Rattle.text.specs.Refusals.{lines-refusal}
 use Rattle.text.proofs.Nest.{Nested, nest-line, nest, branch-of}
+use Rattle.text.proofs.CompleteStates.{LawfulState}
 use Rattle.text.proofs.SoundAsks.{Passes, ask-none, passes}
 use Rattle.text.proofs.SoundFields.{length-flags}
 use Rattle.text.proofs.SoundLines.{some-word, on-true, lowest, is-state, is-choice, is-branch, is-end}
-
--- a state of a model with n states and the denominator d: it has labels, and a choice, and its rows are lawful
-pub record LawfulState (n d : ℕ) (s : State) : Type 0 where
-  pub sixteen : length (s .labels) ≡ 16
-  pub some : 1 ≤ length (s .choices)
-  pub rows : Each (LawfulRow n d) (s .choices)
 
 -- the branches that come first, by the word before: none, or what the open row lacks
 abbrev pub RowFits : Word → List Line → Row → Type 0
@@ -166,7 +161,7 @@ state-rest w l before k ks n a r =
       row-fits = row-closed w l before word.State k a refl refl;
       rows-fit = rows-none w word.State (a .follows) refl;
       rows = tt;
-      states = (record { sixteen = length-flags 97 16 (field 1 k); some = r .rows-fit; rows = r .rows }, r .states);
+      states = (record { labels = length-flags 97 16 (field 1 k); some-choice = r .rows-fit; rows = r .rows }, r .states);
     }
 
 -- a choice's line in front
