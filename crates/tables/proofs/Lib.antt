@@ -3,5 +3,7 @@ pub mod Keeping
 pub mod Told
 pub mod ToldFlat
 pub mod LineFaults
+pub mod Following
+pub mod Growing
 pub mod Spans
 pub mod FreshLaws

@@ -38,6 +38,7 @@ pub record Sane (p : Progress) (f : Flat) : Type 0 where
 -- what is known is what the lines before say
 pub record Follows (p : Progress) (f : Flat) (before : List Line) : Type 0 where
   pub last : p .last ≡ last-word before
+  pub begun : p .last ≡ None → before ≡ []
   pub states : p .states ≡ states-given before
   pub denominator : p .denominator ≡ denominator-given before
   pub row : total (drop (p .first) (vec-items (f .branches))) ≡ row-sum before

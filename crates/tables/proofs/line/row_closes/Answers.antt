@@ -18,7 +18,7 @@ pub returns-in-Some-Branch : need.returns-in-Some-Branch
 returns-in-Some-Branch c before f =
     let s = c .as-slice .result .now in
     let first = c .args .progress .first in
-    let whole : take (length s - first) (drop first s) ≡ drop first s = take-all _ _ (omega (arith, length-drop first s)) in
+    let whole : take (length s - first) (drop first s) ≡ drop first s = take-all (length s - first) (drop first s) (omega (arith, length-drop first s)) in
     let branch : c .args .progress .last ≡ Some word.Branch = search needs in
     let sum : c .row-total .result ≡ row-sum before = c .row-total .ensures ∙ ap total whole ∙ ap (λ z. total (drop first z)) (c .as-slice .ensures .value) ∙ f .row in
     ap₂ eqb sum (f .denominator) ∙ sym (ap (λ w. cond (one-of (word.Branch ∷ []) w) (eqb (row-sum before) (denominator-given before)) true) (sym (f .last) ∙ branch))
