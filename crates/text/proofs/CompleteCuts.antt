@@ -7,11 +7,10 @@ use lib.Dec.{eqb}
 use lib.ListN.{length, getD}
 use Rattle.std.proofs.shelf.Lists.{append-assoc, getD-push, length-push}
 use Rattle.std.proofs.shelf.Tests.{cond-true, cond-false, eq-eqb, ne-eqb}
-use Rattle.model.specs.declared.branch.Branch.{Branch}
 use Rattle.model.specs.Mdp.{Row, Each}
 use Rattle.text.specs.Cuts.{Line, onto, cut, fields, each-fields, lines, parted, spelled}
 use Rattle.text.specs.Contents.{State, Content}
-use Rattle.text.specs.Texts.{header-line, state-line, choice-line, branch-line, end-line, row-lines, choices-lines, states-lines, content-lines, text-of, Within}
+use Rattle.text.specs.Texts.{end-line, row-lines, choices-lines, states-lines, content-lines, text-of, Within}
 use Rattle.text.proofs.CompleteStates.{each-map, each-append, LawfulState, lawful-states, Small, small-rows}
 use Rattle.text.proofs.CompleteFields.{Visible, visible-decimal, visible-labels}
 

@@ -16,7 +16,7 @@ use Rattle.std.proofs.shelf.Tests.{leb-true, eq-eqb, ne-eqb, le-leb, and-parts,
 use Rattle.model.specs.Mdp.{Each}
 use Rattle.text.specs.Fields.{amount, between, lawful-number, ascending, lawful-labels, among, letters-from, or-else, dash, labels-text, flags-from, labels-of}
 
--- the number is read back
+-- a number that is written is read back
 pub amount-decimal : (n : ℕ) → n < 10 ^ 7 → amount (decimal n) ≡ n
 amount-decimal n h = decimal-reads n (omega arith) .1
 
@@ -24,14 +24,16 @@ amount-decimal n h = decimal-reads n (omega arith) .1
 abbrev pub Visible : ℕ → Type 0
 Visible c = 10 < c
 
+-- digits are visible
 visible-digits : (ds : List ℕ) → Digits 10 ds → Each Visible ds
 visible-digits [] h = tt
 visible-digits (c ∷ cs) h = (omega (arith, digit-from-value c (h .0)), visible-digits cs (h .1))
 
--- digits are visible
+-- what is written of a number is visible
 pub visible-decimal : (n : ℕ) → n < 10 ^ 7 → Each Visible (decimal n)
 visible-decimal n h = visible-digits (decimal n) (decimal-reads n (omega arith) .0 .1)
 
+-- a number between the two passes the test
 pub between-from : (low high x : ℕ) → low ≤ x → x ≤ high → between low high x ≡ true
 between-from low high x h k = and-from _ _ (le-leb low x h) (le-leb x high k)
 
@@ -85,6 +87,7 @@ visible-letters l [] h = tt
 visible-letters l (true ∷ flags) h = (h, visible-letters (l + 1) flags (omega arith))
 visible-letters l (false ∷ flags) h = visible-letters (l + 1) flags (omega arith)
 
+-- so is a dash in the place of no letters
 visible-dash : (bytes : List ℕ) → Each Visible bytes → Each Visible (or-else bytes dash)
 visible-dash [] h = (omega arith, tt)
 visible-dash (c ∷ cs) h = h
@@ -107,6 +110,7 @@ ascending-letters l [] h = refl
 ascending-letters l (true ∷ flags) h = and-from _ _ (between-from l 112 l (omega arith) (omega arith)) (ascending-letters (l + 1) flags (omega arith))
 ascending-letters l (false ∷ flags) h = ascending-lower l (l + 1) (letters-from (l + 1) flags) (omega arith) (ascending-letters (l + 1) flags (omega arith))
 
+-- letters that ascend are lawful, and so is a dash in the place of none
 lawful-dash : (bytes : List ℕ) → ascending 97 bytes ≡ true → lawful-labels (or-else bytes dash) ≡ true
 lawful-dash [] h = refl
 lawful-dash (c ∷ cs) h = or-right _ _ h

@@ -7,6 +7,7 @@ pub mod CompleteFields
 pub mod CompleteTold
 pub mod CompleteCuts
 pub mod CompleteFits
+pub mod CompletePlaces
 pub mod CompleteWalk
 pub mod Complete
 pub mod Spellings
