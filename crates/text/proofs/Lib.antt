@@ -15,3 +15,5 @@ pub mod SoundCuts
 pub mod SoundLines
 pub mod SoundRest
 pub mod Sound
+pub mod Longest
+pub mod Digits

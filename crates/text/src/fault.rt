@@ -124,13 +124,14 @@ impl FileFault {
         ensures { λ r. ⌜ r ≡ fault-field (now (self .entry)) ⌝ }
     {
         match self {
-            FileFault::Line(Numbered {
-                fault:
-                    LineFault::Field(
+            FileFault::Line(
+                Numbered {
+                    fault: LineFault::Field(
                         FieldFault::Number { field, length } | FieldFault::Labels { field, length },
                     ),
-                ..
-            }) => Some((*field, *length)),
+                    ..
+                },
+            ) => Some((*field, *length)),
             _ => None,
         }
     }

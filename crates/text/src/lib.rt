@@ -2,4 +2,5 @@
 // It may use the model crate.
 pub mod cut;
 pub mod fault;
+pub mod number;
 pub mod word;
