@@ -16,10 +16,10 @@ use Rattle.text.specs.declared.word.Word.the-variants as word
 use Rattle.text.specs.declared.fault.LineFault.{LineFault}
 use Rattle.text.specs.declared.fault.FileFault.{FileFault}
 use Rattle.text.specs.Cuts.{Line, field}
-use Rattle.text.specs.Fields.{labels-of}
+use Rattle.text.specs.Fields.{lawful-number, labels-of}
 use Rattle.text.specs.Words.{one-of}
 use Rattle.text.specs.Questions.{word, number, last-word, states-given, denominator-given, row-sum, above-last, count, word-fits, fields-fit}
-use Rattle.text.specs.Refusals.{line-fault, line-refusal}
+use Rattle.text.specs.Refusals.{ask, or-next, number-fault, line-fault}
 use Rattle.tables.specs.declared.flat.Flat.{Flat}
 use Rattle.tables.specs.declared.progress.Progress.{Progress}
 use Rattle.tables.specs.declared.progress.Record.{Record}
@@ -67,6 +67,11 @@ Says line record-of.End = word line ≡ Some word.End
 abbrev pub WordRead : List Line → Line → Result Word LineFault → Type 0
 WordRead before line (Ok w) = (word line ≡ Some w) × (word-fits before line ≡ true) × (fields-fit line ≡ true)
 WordRead before line (Err fault) = line-fault before line ≡ Some fault
+
+-- fields 1 and 2 are lawful numbers, and these are they; or the line is refused, whatever is asked next
+abbrev pub NumbersRead : Line → Result (ℕ × ℕ) LineFault → Type 0
+NumbersRead line (Ok v) = (lawful-number (field 1 line) ≡ true) × (lawful-number (field 2 line) ≡ true) × (v .0 ≡ number 1 line) × (v .1 ≡ number 2 line)
+NumbersRead line (Err fault) = (next : Option LineFault) → or-next (ask (lawful-number (field 1 line)) (number-fault 1 line)) (or-next (ask (lawful-number (field 2 line)) (number-fault 2 line)) next) ≡ Some fault
 
 -- the line passes all questions, and says this; or it is refused
 abbrev pub LineRead : List Line → Line → Result Record LineFault → Type 0

@@ -1,13 +1,17 @@
 ghost use mathlib.Core.Path.{_≡_};
-ghost use mathlib.Core.List.{List};
+ghost use mathlib.Core.Bool.{true, cond, _&&_};
+ghost use mathlib.Core.List.{List, [], _∷_};
 ghost use Prim.Native.Nat.{_≤_};
+ghost use lib.Dec.{ltb};
 ghost use lib.ListN.{length};
 ghost use Rattle.model.specs.Mdp.{total};
 ghost use Rattle.std.specs.Vec.{made};
 ghost use Rattle.text.specs.Cuts.{Line, fields};
+ghost use Rattle.text.specs.Fields.{between};
+ghost use Rattle.text.specs.Words.{one-of};
 ghost use Rattle.text.specs.Questions.{last-word, closed};
 ghost use Rattle.text.specs.declared.word.Word.the-variants as kind;
-ghost use Rattle.tables.specs.Readings.{Sane, Follows, Admits, WordRead, LineRead, RestRead};
+ghost use Rattle.tables.specs.Readings.{Sane, Follows, Admits, WordRead, NumbersRead, LineRead, RestRead};
 use crate::flat::Flat;
 use crate::progress::Progress;
 use crate::progress::Record;
@@ -15,6 +19,8 @@ use model::branch::Branch;
 use text::cut::field;
 use text::cut::field_count;
 use text::fault::LineFault;
+use text::fault::LineFromField;
+use text::number::number;
 use text::word::Word;
 
 // The sum of the weights of a row.
@@ -84,4 +90,68 @@ fn read_end(progress: Progress, draft: &Flat, line: &[u8]) -> Result<Record, Lin
         return Err(LineFault::Sum);
     }
     Ok(Record::End)
+}
+
+// The numbers of fields 1 and 2, if they are lawful (5).
+fn two_numbers(line: &[u8]) -> Result<(u32, u32), LineFault>
+    ensures { λ r. ⌜ NumbersRead (fields (now (line .entry))) r ⌝ }
+{
+    let first = number(field(line, 1), 1)?;
+    let second = number(field(line, 2), 2)?;
+    Ok((first, second))
+}
+
+// Are there 1 to 512 states, and is the denominator 1 to 1,000,000?
+fn header_in_range(states: u32, denominator: u32) -> bool
+    ensures { λ r. ⌜ r ≡ (between 1 512 states && between 1 1000000 denominator) ⌝ }
+{
+    (1..=512).contains(&states) && (1..=1_000_000).contains(&denominator)
+}
+
+// A header: its numbers are lawful (5) and in range (6).
+fn read_header(progress: Progress, draft: &Flat, line: &[u8]) -> Result<Record, LineFault>
+    ensures read { λ r. ⌜ RestRead kind.Mdp progress (now (draft .entry)) (fields (now (line .entry))) r ⌝ }
+    ensures admitted { λ r. ⌜ made r (Admits progress (now (draft .entry))) ⌝ }
+{
+    let (states, denominator) = two_numbers(line)?;
+    if !header_in_range(states, denominator) {
+        return Err(LineFault::Range);
+    }
+    Ok(Record::Header { states: states as usize, denominator })
+}
+
+// Is the target a state, and the weight 1 to the denominator?
+fn branch_in_range(progress: Progress, target: usize, weight: u32) -> bool
+    ensures { λ r. ⌜ r ≡ (ltb target (progress .states) && between 1 (progress .denominator) weight) ⌝ }
+{
+    target < progress.states && 1 <= weight && weight <= progress.denominator
+}
+
+// Is the target above that of the last branch, if its row is open?
+fn above_last(progress: Progress, target: usize) -> bool
+    ensures { λ r. ⌜ r ≡ cond (one-of (kind.Branch ∷ []) (progress .last)) (ltb (progress .target) target) true ⌝ }
+{
+    match progress.last {
+        Some(Word::Branch) => progress.target < target,
+        _ => true,
+    }
+}
+
+// A branch: its numbers are lawful (5) and in range (6), its target is above the last (8), and there are few enough (12).
+fn read_branch(progress: Progress, draft: &Flat, line: &[u8]) -> Result<Record, LineFault>
+    ensures read { λ r. ⌜ RestRead kind.Branch progress (now (draft .entry)) (fields (now (line .entry))) r ⌝ }
+    ensures admitted { λ r. ⌜ made r (Admits progress (now (draft .entry))) ⌝ }
+{
+    let (number, weight) = two_numbers(line)?;
+    let target = number as usize;
+    if !branch_in_range(progress, target, weight) {
+        return Err(LineFault::Range);
+    }
+    if !above_last(progress, target) {
+        return Err(LineFault::Order);
+    }
+    if draft.branches.len() >= 4096 {
+        return Err(LineFault::Branches);
+    }
+    Ok(Record::Branch(Branch { target, weight }))
 }
