@@ -17,3 +17,4 @@ pub mod SoundRest
 pub mod Sound
 pub mod Longest
 pub mod Digits
+pub mod Letters

@@ -2,5 +2,6 @@
 // It may use the model crate.
 pub mod cut;
 pub mod fault;
+pub mod labels;
 pub mod number;
 pub mod word;
