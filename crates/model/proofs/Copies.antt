@@ -24,9 +24,9 @@ module _ {X : Type 0} where
   copy-all xs new ys i e f =
       f ∙ ⊎-elim
       (λ h.
-          let same : i ≡ length new = omega arith in
-          ap (λ l. l ++ drop i xs) (take-all i new (omega arith)) ∙ ap (λ j. new ++ drop j xs) same ∙ ap (λ l. l ++ drop (length new) xs) (sym (take-all (length xs) new (omega arith))))
+      let same : i ≡ length new = omega arith in
+      ap (λ l. l ++ drop i xs) (take-all i new (omega arith)) ∙ ap (λ j. new ++ drop j xs) same ∙ ap (λ l. l ++ drop (length new) xs) (sym (take-all (length xs) new (omega arith))))
       (λ h.
-          let same : i ≡ length xs = omega arith in
-          ap (λ l. take i new ++ l) (drop-all i xs (omega arith) ∙ sym (drop-all (length new) xs (omega arith))) ∙ ap (λ j. take j new ++ drop (length new) xs) same)
+      let same : i ≡ length xs = omega arith in
+      ap (λ l. take i new ++ l) (drop-all i xs (omega arith) ∙ sym (drop-all (length new) xs (omega arith))) ∙ ap (λ j. take j new ++ drop (length new) xs) same)
       (cases-lt (length new) (length xs))

@@ -4,27 +4,33 @@ use mathlib.Core.Bool.{Bool, true, false, cond}
 use mathlib.Core.List.{List, [], _∷_, _++_}
 use Prim.Native.Nat.{ℕ, _+_, _≤_, _<_}
 use native.Mathlib.Omega.{arith}
-use lib.Dec.{ltb}
+use lib.Dec.{ltb, eqb}
 use lib.ListN.{length, drop, length-append}
 use Rattle.std.specs.declared.option.Option.{Option}
 use Rattle.std.specs.declared.option.Option.the-variants.{Some, None}
+use Rattle.std.specs.declared.result.Result.{Result}
+use Rattle.std.specs.declared.result.Result.the-variants.{Ok, Err}
 use Rattle.std.specs.Of.Vec.{vec-items}
+use Rattle.std.specs.Vec.{made}
 use Rattle.std.proofs.shelf.Lists.{drop-all, drop-append-le}
 use Rattle.std.proofs.shelf.Tests.{both-ways}
 use Rattle.model.specs.Mdp.{Row, total}
 use Rattle.model.specs.declared.branch.Branch.{Branch}
 use Rattle.text.specs.declared.word.Word.{Word}
 use Rattle.text.specs.declared.word.Word.the-variants as word
+use Rattle.text.specs.declared.fault.LineFault.{LineFault}
+use Rattle.text.specs.declared.fault.FileFault.the-variants.{Missing}
 use Rattle.text.specs.Cuts.{Line, field}
 use Rattle.text.specs.Words.{listed, one-of, followers}
-use Rattle.text.specs.Questions.{word, number, last-word, header, states-given, denominator-given, row-sum, above-last, count, word-fits}
+use Rattle.text.specs.Questions.{word, number, last-word, header, states-given, denominator-given, row-sum, above-last, count, word-fits, states-there}
+use Rattle.text.specs.Refusals.{ask, or-next, numbered, line-fault, line-refusal}
 use Rattle.text.proofs.SoundAsks.{some-none}
 use Rattle.text.proofs.SoundRest.{count-more, row-sum-more}
 use Rattle.tables.specs.declared.flat.Flat.{Flat}
 use Rattle.tables.specs.declared.progress.Progress.{Progress}
 use Rattle.tables.specs.declared.progress.Record.{Record}
 use Rattle.tables.specs.declared.progress.Record.the-variants as record-of
-use Rattle.tables.specs.Readings.{Sane, Follows, Says, Put, further}
+use Rattle.tables.specs.Readings.{Sane, Follows, Admits, Says, LineRead, Put, further, numbered-result, all-there}
 
 -- the word of what a line says
 abbrev pub kind : Record → Word
@@ -121,17 +127,53 @@ follows-more line before p f g r sane k fits s put =
   where
     first : (r : Record) → Says line r → listed (kind r) (word.Mdp ∷ []) ≡ false → header (line ∷ before) ≡ header before
     first r s h = header-more (kind r) line before (says-word line r s) h fits
+
     start : word line ≡ Some word.Mdp → header (line ∷ before) ≡ line
     start e = ap (λ b. header (line ∷ b)) (k .begun (none-before (p .last) (ap (λ o. listed word.Mdp (followers o)) (k .last) ∙ sym (ap (one-of (followers (last-word before))) e) ∙ fits)))
+
     states : (r : Record) → Says line r → further p (length (vec-items (f .branches))) r .states ≡ states-given (line ∷ before)
     states (record-of.Header n d) s = s .1 ∙ ap (number 1) (sym (start (s .0)))
     states (record-of.State labels) s = k .states ∙ ap (number 1) (sym (first (record-of.State labels) s refl))
     states record-of.Choice s = k .states ∙ ap (number 1) (sym (first record-of.Choice s refl))
     states (record-of.Branch branch) s = k .states ∙ ap (number 1) (sym (first (record-of.Branch branch) s refl))
     states record-of.End s = k .states ∙ ap (number 1) (sym (first record-of.End s refl))
+
     units : (r : Record) → Says line r → further p (length (vec-items (f .branches))) r .denominator ≡ denominator-given (line ∷ before)
     units (record-of.Header n d) s = s .2 ∙ ap (number 2) (sym (start (s .0)))
     units (record-of.State labels) s = k .denominator ∙ ap (number 2) (sym (first (record-of.State labels) s refl))
     units record-of.Choice s = k .denominator ∙ ap (number 2) (sym (first record-of.Choice s refl))
     units (record-of.Branch branch) s = k .denominator ∙ ap (number 2) (sym (first (record-of.Branch branch) s refl))
     units record-of.End s = k .denominator ∙ ap (number 2) (sym (first record-of.End s refl))
+
+-- the arrays stay within the limits, with what they had room for
+pub sane-more : (p : Progress) (f g : Flat) (r : Record) → Sane p f → Admits p f r → Put r f g → Sane (further p (length (vec-items (f .branches))) r) g
+sane-more p f g (record-of.Header states denominator) k a put = omega (arith, k, a, ap length (put .labels), ap length (put .starts), ap length (put .offsets), ap length (put .branches))
+sane-more p f g (record-of.State labels) k a put = omega (arith, k, a, one-longer _ _ labels (put .labels), one-longer _ _ _ (put .starts), ap length (put .offsets), ap length (put .branches))
+sane-more p f g record-of.Choice k a put = omega (arith, k, a, ap length (put .labels), ap length (put .starts), one-longer _ _ _ (put .offsets), ap length (put .branches))
+sane-more p f g (record-of.Branch branch) k a put = omega (arith, k, a, ap length (put .labels), ap length (put .starts), ap length (put .offsets), one-longer _ _ branch (put .branches))
+sane-more p f g record-of.End k a put = omega (arith, k, ap length (put .labels), ap length (put .starts), ap length (put .offsets), ap length (put .branches))
+
+-- whether all states are there is asked at the end alone, of what is known
+pub there : (line : Line) (before : List Line) (p : Progress) (f : Flat) (r : Record) → Follows p f before → Says line r → states-there before line ≡ all-there p f r
+there line before p f r k s = ap (λ o. cond (one-of (word.End ∷ []) o) (eqb (count word.State before) (states-given before)) true) (says-word line r s) ∙ by-kind r
+  where
+    by-kind : (r : Record) → cond (listed (kind r) (word.End ∷ [])) (eqb (count word.State before) (states-given before)) true ≡ all-there p f r
+    by-kind (record-of.Header states denominator) = refl
+    by-kind (record-of.State labels) = refl
+    by-kind record-of.Choice = refl
+    by-kind (record-of.Branch branch) = refl
+    by-kind record-of.End = sym (ap₂ eqb (k .state-count) (k .states))
+
+-- a line with no fault is not refused, where all states are there or it is no end
+pub not-refused : (before : List Line) (n : ℕ) (line : Line) → line-fault before line ≡ None → states-there before line ≡ true → line-refusal before n line ≡ None
+not-refused before n line e h = ap (λ o. or-next (numbered n o) (or-next (ask (states-there before line) Missing) None)) e ∙ ap (λ b. or-next (ask b Missing) None) h
+
+-- what a numbered answer says is what the line says
+pub said : (before : List Line) (line : Line) (n : ℕ) (x : Result Record LineFault) (r : Record) → numbered-result n x ≡ Ok r → LineRead before line x → (line-fault before line ≡ None) × Says line r
+said before line n (Ok y) r e h = let same : y ≡ r = cc in subst (λ z. (line-fault before line ≡ None) × Says line z) same h
+said before line n (Err fault) r e h = absurd (let z : _≡_ {A = ℕ} 0 1 = cc in omega arith)
+
+-- and there is room for it
+pub admitted : (p : Progress) (f : Flat) (n : ℕ) (x : Result Record LineFault) (r : Record) → numbered-result n x ≡ Ok r → made x (Admits p f) → Admits p f r
+admitted p f n (Ok y) r e h = let same : y ≡ r = cc in subst (Admits p f) same h
+admitted p f n (Err fault) r e h = absurd (let z : _≡_ {A = ℕ} 0 1 = cc in omega arith)

@@ -2,8 +2,8 @@ pub mod Flattening
 pub mod Keeping
 pub mod Told
 pub mod ToldFlat
-pub mod LineFaults
 pub mod Following
 pub mod Growing
+pub mod Reading
 pub mod Spans
 pub mod FreshLaws

@@ -1,9 +1,9 @@
 -- What the loader knows while it reads a text, against the lines before, the newest first.
 use mathlib.Core.Path.{_≡_}
-use mathlib.Core.Bool.{true, cond}
+use mathlib.Core.Bool.{Bool, true, cond}
 use mathlib.Core.List.{List, [], _∷_}
 use Prim.Native.Nat.{ℕ, _≤_, _<_}
-use lib.Dec.{ltb}
+use lib.Dec.{ltb, eqb}
 use lib.ListN.{length, drop}
 use Rattle.std.specs.declared.option.Option.{Option}
 use Rattle.std.specs.declared.option.Option.the-variants.{Some, None}
@@ -15,11 +15,12 @@ use Rattle.text.specs.declared.word.Word.{Word}
 use Rattle.text.specs.declared.word.Word.the-variants as word
 use Rattle.text.specs.declared.fault.LineFault.{LineFault}
 use Rattle.text.specs.declared.fault.FileFault.{FileFault}
+use Rattle.text.specs.declared.fault.Numbered.{Numbered}
 use Rattle.text.specs.Cuts.{Line, field}
 use Rattle.text.specs.Fields.{lawful-number, labels-of}
 use Rattle.text.specs.Words.{one-of}
 use Rattle.text.specs.Questions.{word, number, last-word, states-given, denominator-given, row-sum, above-last, count, word-fits, fields-fit}
-use Rattle.text.specs.Refusals.{ask, or-next, number-fault, line-fault}
+use Rattle.text.specs.Refusals.{ask, or-next, number-fault, line-fault, line-refusal}
 use Rattle.tables.specs.declared.flat.Flat.{Flat}
 use Rattle.tables.specs.declared.progress.Progress.{Progress}
 use Rattle.tables.specs.declared.progress.Record.{Record}
@@ -104,3 +105,28 @@ further p n (record-of.State labels) = record { last = Some word.State; states =
 further p n record-of.Choice = record { last = Some word.Choice; states = p .states; denominator = p .denominator; first = n; target = 0 }
 further p n (record-of.Branch branch) = record { last = Some word.Branch; states = p .states; denominator = p .denominator; first = p .first; target = branch .target }
 further p n record-of.End = record { last = Some word.End; states = p .states; denominator = p .denominator; first = n; target = 0 }
+
+-- from f and p, the line has been put into the arrays g, and q is how far the text is read then
+pub record Stepped (p : Progress) (f : Flat) (line : Line) (q : Progress) (g : Flat) : Type 0 where
+  pub said : Record
+  pub says : Says line said
+  pub put : Put said f g
+  pub next : q ≡ further p (length (vec-items (f .branches))) said
+
+-- line number n is not refused, and has been put into the arrays; or it is refused with this fault
+abbrev pub StepRead : List Line → ℕ → Line → Progress → Flat → Flat → Result Progress FileFault → Type 0
+StepRead before n line p f g (Ok q) = (line-refusal before n line ≡ None) × Stepped p f line q g
+StepRead before n line p f g (Err fault) = line-refusal before n line ≡ Some fault
+
+-- a line's answer, its fault with the number of the line
+abbrev pub numbered-result : ℕ → Result Record LineFault → Result Record Numbered
+numbered-result n (Ok r) = Ok r
+numbered-result n (Err f) = Err (record { line = n; fault = f })
+
+-- are all states there, if this is the end?
+abbrev pub all-there : Progress → Flat → Record → Bool
+all-there p f (record-of.Header states denominator) = true
+all-there p f (record-of.State labels) = true
+all-there p f record-of.Choice = true
+all-there p f (record-of.Branch branch) = true
+all-there p f record-of.End = eqb (length (vec-items (f .labels))) (p .states)

@@ -2,9 +2,10 @@
 // It may use the model and text crates.
 mod draft;
 pub mod flat;
-mod line;
-mod progress;
-mod step;
 pub mod fresh;
+mod line;
+pub mod load;
+mod progress;
 pub mod source;
+mod step;
 pub mod tables;

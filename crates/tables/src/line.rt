@@ -20,6 +20,7 @@ use text::cut::field;
 use text::cut::field_count;
 use text::fault::LineFault;
 use text::fault::LineFromField;
+use text::labels::labels;
 use text::number::number;
 use text::word::Word;
 
@@ -117,7 +118,10 @@ fn read_header(progress: Progress, draft: &Flat, line: &[u8]) -> Result<Record, 
     if !header_in_range(states, denominator) {
         return Err(LineFault::Range);
     }
-    Ok(Record::Header { states: states as usize, denominator })
+    Ok(Record::Header {
+        states: states as usize,
+        denominator,
+    })
 }
 
 // Is the target a state, and the weight 1 to the denominator?
@@ -154,4 +158,35 @@ fn read_branch(progress: Progress, draft: &Flat, line: &[u8]) -> Result<Record, 
         return Err(LineFault::Branches);
     }
     Ok(Record::Branch(Branch { target, weight }))
+}
+
+// A state: its labels are lawful (7), the row before it sums up (9), and the header has states left (10).
+fn read_state(progress: Progress, draft: &Flat, line: &[u8]) -> Result<Record, LineFault>
+    requires { ⌜ Sane progress (now draft) ⌝ }
+    ensures read { λ r. ⌜ RestRead kind.State progress (now (draft .entry)) (fields (now (line .entry))) r ⌝ }
+    ensures admitted { λ r. ⌜ made r (Admits progress (now (draft .entry))) ⌝ }
+{
+    let labels = labels(field(line, 1), 1)?;
+    if !row_closes(progress, draft) {
+        return Err(LineFault::Sum);
+    }
+    if draft.labels.len() >= progress.states {
+        return Err(LineFault::States);
+    }
+    Ok(Record::State(labels))
+}
+
+// What a line says, if no question refuses it (3 to 12).
+pub(crate) fn read_line(progress: Progress, draft: &Flat, line: &[u8]) -> Result<Record, LineFault>
+    requires { ⌜ Sane progress (now draft) ⌝ }
+    ensures read { λ r. ⌜ ((before : List Line) → Follows progress (now (draft .entry)) before → LineRead before (fields (now (line .entry))) r) ⌝ }
+    ensures admitted { λ r. ⌜ made r (Admits progress (now (draft .entry))) ⌝ }
+{
+    match next_word(progress.last, line)? {
+        Word::Mdp => read_header(progress, draft, line),
+        Word::State => read_state(progress, draft, line),
+        Word::Choice => read_choice(progress, draft, line),
+        Word::Branch => read_branch(progress, draft, line),
+        Word::End => read_end(progress, draft, line),
+    }
 }
