@@ -7,3 +7,5 @@ pub mod Growing
 pub mod Reading
 pub mod Spans
 pub mod FreshLaws
+pub mod Writes
+pub mod WritesTexts

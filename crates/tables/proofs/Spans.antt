@@ -5,20 +5,17 @@ use mathlib.Core.List.{List, [], map}
 use Prim.Native.Nat.{ℕ, _+_, _-_, _≤_, _<_}
 use native.Mathlib.Omega.{arith}
 use lib.ListN.{length, getD, take, drop, length-take, length-drop}
+use Rattle.std.specs.Iters.{counting}
 use Rattle.std.specs.Of.Vec.{vec-items}
 use Rattle.std.proofs.shelf.Counted.{length-map-counting, getD-map-counting}
 use Rattle.std.proofs.shelf.Lists.{length-map, getD-map, getD-past, getD-take, getD-drop}
 use Rattle.model.specs.declared.branch.Branch.{Branch}
 use Rattle.model.specs.declared.labels.Labels.{Labels}
 use Rattle.model.specs.Mdp.{Row, no-labels, row}
-use Rattle.text.specs.Contents.{State, no-state, model-of}
+use Rattle.text.specs.Contents.{no-state, model-of}
 use Rattle.tables.specs.declared.flat.Flat.{Flat}
-use Rattle.tables.specs.Flats.{piece, letters, flat-state, content}
-use Rattle.tables.specs.Spans.{SpanOf}
-
--- state s of flat arrays
-abbrev state-at : Flat → ℕ → State
-state-at f s = flat-state (letters (vec-items (f .labels))) (vec-items (f .starts)) (vec-items (f .offsets)) (vec-items (f .branches)) s
+use Rattle.tables.specs.Flats.{letters, content}
+use Rattle.tables.specs.Spans.{row-at, state-at, SpanOf}
 
 -- how many choices state s has
 abbrev pub count-at : Flat → ℕ → ℕ
@@ -37,19 +34,26 @@ module _ (f : Flat) where
   pub state-past : (s : ℕ) → length (vec-items (f .labels)) ≤ s → getD (content f .states) s no-state ≡ no-state
   state-past s h = let e = states-count in getD-past (content f .states) s no-state (omega arith)
 
+  -- the states are made from the numbers below their count
+  pub states-are : content f .states ≡ map (state-at f) (counting 0 (length (vec-items (f .labels))))
+  states-are = ap (λ n. map (state-at f) (counting 0 n)) (length-map (vec-items (f .labels)) (λ l. l .letters))
+
   -- the labels of a state are the set at its place
+  pub letters-here : (s : ℕ) (l : Labels) → s < length (vec-items (f .labels)) → l ≡ getD (vec-items (f .labels)) s l → l .letters ≡ state-at f s .labels
+  letters-here s l h e = ap (λ x. x .letters) e ∙ sym (getD-map (λ x. x .letters) (vec-items (f .labels)) s l no-labels h)
+
   pub labels-here : (s : ℕ) (l : Labels) → s < length (vec-items (f .labels)) → l ≡ getD (vec-items (f .labels)) s l → l .letters ≡ model-of (content f) .labels s
-  labels-here s l h e = ap (λ x. x .letters) e ∙ sym (ap (λ x. x .labels) (state-here s h) ∙ getD-map (λ x. x .letters) (vec-items (f .labels)) s l no-labels h)
+  labels-here s l h e = letters-here s l h e ∙ sym (ap (λ x. x .labels) (state-here s h))
 
   -- a state has as many choices as its part of `starts` says
   pub choices-here : (s : ℕ) → s < length (vec-items (f .labels)) → length (model-of (content f) .choices s) ≡ count-at f s
-  choices-here s h = ap (λ x. length (x .choices)) (state-here s h) ∙ length-map-counting (piece (vec-items (f .offsets)) (vec-items (f .branches))) (getD (vec-items (f .starts)) s 0) (count-at f s)
+  choices-here s h = ap (λ x. length (x .choices)) (state-here s h) ∙ length-map-counting (row-at f) (getD (vec-items (f .starts)) s 0) (count-at f s)
 
   -- the row of a choice that exists stands where `offsets` says
   pub span-here : (s c at from to : ℕ) → s < length (vec-items (f .labels)) → c < count-at f s → getD (vec-items (f .starts)) s 0 + c ≡ at → from ≡ getD (vec-items (f .offsets)) at 0 → to ≡ getD (vec-items (f .offsets)) (at + 1) 0 → from ≤ to → to ≤ length (vec-items (f .branches)) → SpanOf (vec-items (f .branches)) (row (model-of (content f)) s c) from to
   span-here s c at from to h k e p q low high =
-      let found : row (model-of (content f)) s c ≡ piece (vec-items (f .offsets)) (vec-items (f .branches)) at =
-      ap (λ x. getD (x .choices) c []) (state-here s h) ∙ getD-map-counting (piece (vec-items (f .offsets)) (vec-items (f .branches))) (getD (vec-items (f .starts)) s 0) (count-at f s) c at [] k e in
+      let found : row (model-of (content f)) s c ≡ row-at f at =
+      ap (λ x. getD (x .choices) c []) (state-here s h) ∙ getD-map-counting (row-at f) (getD (vec-items (f .starts)) s 0) (count-at f s) c at [] k e in
       record { order = low; within = high; is = found ∙ (cc) }
 
   -- a choice that does not exist has no row

@@ -6,3 +6,4 @@ pub mod Fresh
 pub mod Keeps
 pub mod KeepsLaws
 pub mod Spans
+pub mod Writes

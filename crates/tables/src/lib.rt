@@ -6,6 +6,8 @@ pub mod fresh;
 mod line;
 pub mod load;
 mod progress;
+mod put;
 pub mod source;
 mod step;
 pub mod tables;
+pub mod write;
