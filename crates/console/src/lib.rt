@@ -1,0 +1,6 @@
+// The command line as functions on values: text in, text out.
+// It may use the crates model, text, tables, ladder and layers.
+pub mod labels;
+pub mod lay;
+pub mod style;
+pub mod words;
