@@ -1,2 +1,4 @@
 pub mod Spelling
 pub mod Laying
+pub mod Texts
+pub mod Counts
