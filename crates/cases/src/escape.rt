@@ -56,7 +56,7 @@ fn push_repeated(repetition: &str, out: &mut Vec<u8>) -> Result<(), AllocError> 
 }
 
 // The bytes of an escaped text, in which `{5:x}` stands for xxxxx.
-pub fn expand(heap: Global, text: &str) -> Result<Vec<u8>, AllocError> {
+pub(crate) fn expand(heap: Global, text: &str) -> Result<Vec<u8>, AllocError> {
     let mut out = Vec::new(heap);
     for part in text.split('{') {
         match part.split_once('}') {

@@ -6,7 +6,7 @@ use tables::tables::Tables;
 use text::fault::FileFault;
 
 // What a source tells of its sizes.
-pub fn counts(heap: Global, source: &Tables) -> Result<String, AllocError> {
+pub(crate) fn counts(heap: Global, source: &Tables) -> Result<String, AllocError> {
     let states = source.states();
     let denominator = source.denominator();
     let mut choices: usize = 0;
@@ -25,7 +25,7 @@ pub fn counts(heap: Global, source: &Tables) -> Result<String, AllocError> {
 }
 
 // What a fault tells.
-pub fn refused(heap: Global, fault: FileFault) -> Result<String, AllocError> {
+pub(crate) fn refused(heap: Global, fault: FileFault) -> Result<String, AllocError> {
     let number = fault.number();
     let line = fault.line();
     match fault.field() {
@@ -65,7 +65,7 @@ fn writes_into(
 }
 
 // Does the table write this text, with just the room for it and with more, and nothing with one byte less?
-pub fn writes(heap: Global, tables: &Tables, text: &[u8]) -> Result<bool, AllocError> {
+pub(crate) fn writes(heap: Global, tables: &Tables, text: &[u8]) -> Result<bool, AllocError> {
     let room = text.len();
     Ok(
         writes_into(heap, tables, text, room)?
