@@ -24,5 +24,9 @@ pub fn labels_text(heap: Global, labels: &Labels) -> Result<String, AllocError>
     ensures { λ r. ⌜ made r (λ s. string-bytes s ≡ labels-text (now (labels .entry) .letters)) ⌝ }
 {
     let letters = letters_text(heap, labels)?;
-    if letters.is_empty() { String::from_str(heap, "-") } else { Ok(letters) }
+    if letters.is_empty() {
+        String::from_str(heap, "-")
+    } else {
+        Ok(letters)
+    }
 }

@@ -62,7 +62,11 @@ fn add_state<S: Source, L: Style>(
 }
 
 // The states of a source, laid out.
-pub fn lay_states<S: Source, L: Style>(heap: Global, style: &L, source: &S) -> Result<String, AllocError>
+pub fn lay_states<S: Source, L: Style>(
+    heap: Global,
+    style: &L,
+    source: &S,
+) -> Result<String, AllocError>
     ensures { λ r. ⌜ made r (λ s. string-bytes s ≡ laid-states (L·Style .layout (now (style .entry))) (content-of (S·Source .model (now (source .entry))) .states)) ⌝ }
 {
     let mut out = String::new(heap);

@@ -14,7 +14,8 @@ fn field_words(fault: &FieldFault) -> &'static str
     ensures { λ r. ⌜ now r ≡ field-words (now (fault .entry)) ⌝ }
 {
     match fault {
-        FieldFault::Number { .. } => "this is no number; write 0, or one to seven digits that do not start with 0",
+        FieldFault::Number { .. } =>
+            "this is no number; write 0, or one to seven digits that do not start with 0",
         FieldFault::Labels { .. } => {
             "these are no labels; write letters from a to p in strictly ascending order, or - for none"
         }
@@ -45,8 +46,10 @@ fn line_words(fault: &LineFault) -> &'static str
         LineFault::States => {
             "this is one state more than the mdp line says; raise the number of states there, or take this state out"
         }
-        LineFault::Choices => "this is choice number 2049, and a text has 2048 at the most; take choices out",
-        LineFault::Branches => "this is branch number 4097, and a text has 4096 at the most; take branches out",
+        LineFault::Choices =>
+            "this is choice number 2049, and a text has 2048 at the most; take choices out",
+        LineFault::Branches =>
+            "this is branch number 4097, and a text has 4096 at the most; take branches out",
     }
 }
 

@@ -34,7 +34,7 @@ pub record Accepted (text : List ℕ) (after : Flat) : Type 0 where
   pub only : (c : Content) → Describes text c → c ≡ content after
 
 -- a refused text: the fault is that of the first question answered no, the tables are as they were, and the text describes nothing
-pub record Refused (text : List ℕ) (fault : FileFault) (before after : Flat) : Type 0 where
+pub record Rejected (text : List ℕ) (fault : FileFault) (before after : Flat) : Type 0 where
   pub first : refusal text ≡ Some fault
   pub unchanged : after ≡ before
   pub none : (c : Content) → Describes text c → ⊥
@@ -42,4 +42,4 @@ pub record Refused (text : List ℕ) (fault : FileFault) (before after : Flat) :
 -- what loading a text answers, and what the tables hold before and after
 abbrev pub Loaded : List ℕ → Flat → Flat → Result (Unit {0}) FileFault → Type 0
 Loaded text before after (Ok _) = Accepted text after
-Loaded text before after (Err fault) = Refused text fault before after
+Loaded text before after (Err fault) = Rejected text fault before after

@@ -40,11 +40,11 @@ pub record Wrote (text old new : List ℕ) (n : ℕ) : Type 0 where
   pub is : new ≡ text ++ drop n old
 
 -- a text was not written: it does not fit, and the buffer is as it was
-pub record Refused (text old new : List ℕ) : Type 0 where
+pub record NotWritten (text old new : List ℕ) : Type 0 where
   pub short : length old < length text
   pub same : new ≡ old
 
 -- what writing a text into a buffer answers, and what it leaves there
 abbrev pub Written : List ℕ → List ℕ → List ℕ → Result ℕ NoRoom → Type 0
 Written text old new (Ok n) = Wrote text old new n
-Written text old new (Err e) = Refused text old new
+Written text old new (Err e) = NotWritten text old new

@@ -1,5 +1,6 @@
 // The tables that hold a loaded model: a source of rows in flat arrays, with its text loaded and written.
 // It may use the model and text crates.
+pub mod copy;
 mod draft;
 pub mod flat;
 pub mod fresh;

@@ -7,7 +7,7 @@ use Rattle.console.proofs.labels.letters_text.Needs.{then-labels-index·in-Con
 pub loop-index-again : need.loop-index-again
 loop-index-again c =
     elim (c .if-labels-index .came) [
-        then-labels-index·in-Continue-push w ↦ search (needs, left-set)
+      | then-labels-index·in-Continue-push w ↦ search (needs, left-set)
       | else-labels-index w ↦ search (needs, left-clear)
     ]
 

@@ -5,7 +5,7 @@ use Rattle.std.proofs.shelf.Tests.{eqb-true}
 use Rattle.text.specs.declared.fault.FileFault.the-variants.{Unended}
 use Rattle.text.specs.Refusals.{refusal}
 use Rattle.text.proofs.Complete.{unique}
-use Rattle.tables.specs.Loads.{Holds, Accepted, Refused}
+use Rattle.tables.specs.Loads.{Holds, Accepted, Rejected}
 use Rattle.tables.proofs.Keeping.{within-keeps}
 use Rattle.tables.proofs.Reading.{refusal-lines, refusal-unended, refused-none}
 use Rattle.tables.proofs.tables.Tables.load.Needs as need
@@ -21,7 +21,7 @@ returns-in-Break-read-lines c =
     let text = c .args .text .now in
     let fault = c .in-Break-read-lines .field-0 .0 in
     let e : refusal text ≡ Some fault = refusal-lines text (c .if-text-gt65536 .left) (eqb-true _ 10 (sym (c .if-not-is-ended .ensures tt))) ∙ c .in-Break-read-lines .ensures tt in
-    let r : Refused text fault (c .args .self .now .kept) (c .args .self .now .kept) = record { first = e; unchanged = refl; none = refused-none text fault e } in
+    let r : Rejected text fault (c .args .self .now .kept) (c .args .self .now .kept) = record { first = e; unchanged = refl; none = refused-none text fault e } in
     search needs
 
 pub ghost-self-2 : need.ghost-self-2
