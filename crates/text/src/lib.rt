@@ -4,4 +4,6 @@ pub mod cut;
 pub mod fault;
 pub mod labels;
 pub mod number;
+#[cfg(test)]
+mod tests;
 pub mod word;
