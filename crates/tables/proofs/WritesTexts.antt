@@ -69,10 +69,17 @@ letters-more letter false flags = refl
 counting-more : {X : Type 0} (f : ℕ → X) (k n : ℕ) → k < n → map f (counting k (n - k)) ≡ f k ∷ map f (counting (k + 1) (n - (k + 1)))
 counting-more f k n h = let e : n - k ≡ suc (n - (k + 1)) = omega arith in ap (λ m. map f (counting k m)) e
 
--- the choices from number k until before n: that choice, then the others
-pub choices-next : (f : ℕ → Row) (k n : ℕ) → k < n → spelled (choices-lines (map f (counting k (n - k)))) ≡ choice-text (f k) ++ spelled (choices-lines (map f (counting (k + 1) (n - (k + 1)))))
+-- the lines of the choices, and of the states, from number k until before n
+abbrev pub choices-from : (ℕ → Row) → ℕ → ℕ → List ℕ
+choices-from f k n = spelled (choices-lines (map f (counting k (n - k))))
+
+abbrev pub states-from : (ℕ → State) → ℕ → ℕ → List ℕ
+states-from f k n = spelled (states-lines (map f (counting k (n - k))))
+
+-- that choice, then the others
+pub choices-next : (f : ℕ → Row) (k n : ℕ) → k < n → choices-from f k n ≡ choice-text (f k) ++ choices-from f (k + 1) n
 choices-next f k n h = ap (λ rs. spelled (choices-lines rs)) (counting-more f k n h) ∙ choices-more (f k) (map f (counting (k + 1) (n - (k + 1))))
 
--- the states from number k until before n: that state, then the others
-pub states-next : (f : ℕ → State) (k n : ℕ) → k < n → spelled (states-lines (map f (counting k (n - k)))) ≡ state-text (f k) ++ spelled (states-lines (map f (counting (k + 1) (n - (k + 1)))))
+-- that state, then the others
+pub states-next : (f : ℕ → State) (k n : ℕ) → k < n → states-from f k n ≡ state-text (f k) ++ states-from f (k + 1) n
 states-next f k n h = ap (λ ss. spelled (states-lines ss)) (counting-more f k n h) ∙ states-more (f k) (map f (counting (k + 1) (n - (k + 1))))

@@ -7,7 +7,7 @@ ghost use lib.ListN.{length};
 ghost use Rattle.std.specs.Written.{decimal};
 ghost use Rattle.text.specs.Cuts.{spelled};
 ghost use Rattle.text.specs.Fields.{letters-from, labels-text};
-ghost use Rattle.text.specs.Texts.{state-line, branch-line, row-lines};
+ghost use Rattle.text.specs.Texts.{state-line, row-lines};
 ghost use Rattle.tables.specs.Writes.{Put, line-text};
 use model::branch::Branch;
 use model::labels::Labels;

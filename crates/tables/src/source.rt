@@ -62,8 +62,9 @@ pub impl Source for Tables as TablesSource {
 
     fn read_row(&self, state: usize, choice: usize, into: &mut [Branch]) -> usize {
         let (from, to) = self.span(state, choice);
-        copy_over(&self.kept.branches.as_slice()[from..to], into);
-        to - from
+        let row = &self.kept.branches.as_slice()[from..to];
+        copy_over(row, into);
+        row.len()
     }
 }
 

@@ -1,4 +1,3 @@
-use borrow.Author.Needs.{needs}
 use mathlib.Core.Path.{refl, sym, _∙_}
 use Rattle.std.proofs.shelf.Lists.{set-past}
 use Rattle.tables.proofs.put.put_byte.Needs as need

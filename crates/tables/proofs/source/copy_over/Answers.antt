@@ -1,5 +1,5 @@
 use borrow.Author.Needs.{needs}
-use mathlib.Core.Path.{ap, _∙_}
+use mathlib.Core.Path.{ap}
 use mathlib.Core.List.{_++_}
 use lib.ListN.{drop}
 use Rattle.model.proofs.Copies.{copy-all}

@@ -13,7 +13,7 @@ use Rattle.tables.specs.Spans.{state-at}
 use Rattle.tables.specs.Writes.{state-text}
 use Rattle.tables.proofs.Spans.{states-are}
 use Rattle.tables.proofs.Writes.{left-same, left-room, left-more}
-use Rattle.tables.proofs.WritesTexts.{states-next}
+use Rattle.tables.proofs.WritesTexts.{states-from, states-next}
 use Rattle.tables.proofs.tables.Tables.put_states.Needs as need
 
 pub loop-state-holds : need.loop-state-holds
@@ -21,21 +21,21 @@ loop-state-holds c =
     let f = c .args .self .now .kept in
     let n = length (vec-items (f .labels)) in
     let e : n ≡ n - 0 = omega arith in
-    left-same (spelled (states-lines (content f .states))) (spelled (states-lines (map (state-at f) (counting 0 (n - 0))))) (c .args .out .now) (c .args .at) (ap (λ ss. spelled (states-lines ss)) (states-are f ∙ ap (λ m. map (state-at f) (counting 0 m)) e))
+    left-same (spelled (states-lines (content f .states))) (states-from (state-at f) 0 n) (c .args .out .now) (c .args .at) (ap (λ ss. spelled (states-lines ss)) (states-are f ∙ ap (λ m. map (state-at f) (counting 0 m)) e))
 
 pub put-state-to-requires : need.put-state-to-requires
 put-state-to-requires c κs =
-    let f = c .args .self .now .kept in
+    let f = state-at (c .args .self .now .kept) in
     let s = c .loop-state .state in
-    let n = length (vec-items (f .labels)) in
+    let n = length (vec-items (c .args .self .now .kept .labels)) in
     record {
       here = search needs;
-      room = left-room (state-text (state-at f s)) (spelled (states-lines (map (state-at f) (counting (s + 1) (n - (s + 1)))))) (spelled (states-lines (map (state-at f) (counting s (n - s))))) (states-next (state-at f) s n (search needs)) (c .loop-state .inv) 65536 (c .pre);
+      room = left-room (state-text (f s)) (states-from f (s + 1) n) (states-from f s n) (states-next f s n (search needs)) (c .loop-state .inv) 65536 (c .pre);
     }
 
 pub loop-state-again : need.loop-state-again
 loop-state-again c =
-    let f = c .args .self .now .kept in
+    let f = state-at (c .args .self .now .kept) in
     let s = c .loop-state .state in
-    let n = length (vec-items (f .labels)) in
-    left-more (state-text (state-at f s)) (spelled (states-lines (map (state-at f) (counting (s + 1) (n - (s + 1)))))) (spelled (states-lines (map (state-at f) (counting s (n - s))))) (states-next (state-at f) s n (search needs)) (c .loop-state .inv) (c .put-state-to .ensures)
+    let n = length (vec-items (c .args .self .now .kept .labels)) in
+    left-more (state-text (f s)) (states-from f (s + 1) n) (states-from f s n) (states-next f s n (search needs)) (c .loop-state .inv) (c .put-state-to .ensures)
