@@ -1,4 +1,4 @@
 pub mod Spelling
 pub mod Laying
 pub mod Texts
-pub mod Counts
+pub mod Counting

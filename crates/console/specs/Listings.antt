@@ -9,6 +9,7 @@ use Rattle.std.specs.Written.{decimal}
 use Rattle.text.specs.Fields.{labels-text}
 use Rattle.text.specs.Contents.{Content, all-choices, all-branches}
 use Rattle.console.specs.Layouts.{Layout, laid-states}
+use Rattle.console.specs.declared.totals.Totals.{Totals}
 
 -- model text: a line `s` with the labels, a line `c` for each choice, a line `b` with target and weight for each branch
 abbrev pub model-text : Layout
@@ -32,12 +33,29 @@ listing = record {
   close = codes "\n";
 }
 
--- what `show` prints of a content whose text has so many bytes
+-- a whole model text: the header, the lines of the states, the end
+abbrev pub framed : ℕ → ℕ → List ℕ → List ℕ
+framed n d lines = codes "mdp\t" ++ (decimal n ++ (codes "\t" ++ (decimal d ++ (codes "\n" ++ (lines ++ codes "end\n")))))
+
+-- the totals of a content whose text has so many bytes
+abbrev pub totals-of : ℕ → Content → Totals
+totals-of bytes c = record {
+  bytes = bytes;
+  states = length (c .states);
+  denominator = c .denominator;
+  choices = length (all-choices (c .states));
+  branches = length (all-branches (all-choices (c .states)));
+}
+
+-- totals in words, a line for each
+abbrev pub totals-text : Totals → List ℕ
+totals-text t =
+    codes "bytes " ++ (decimal (t .bytes)
+    ++ (codes "\nstates " ++ (decimal (t .states)
+    ++ (codes "\ndenominator " ++ (decimal (t .denominator)
+    ++ (codes "\nchoices " ++ (decimal (t .choices)
+    ++ (codes "\nbranches " ++ (decimal (t .branches) ++ codes "\n")))))))))
+
+-- what `show` prints of a content whose text has so many bytes: the totals, and a line for each state
 abbrev pub show-text : ℕ → Content → List ℕ
-show-text bytes c =
-    codes "bytes " ++ (decimal bytes
-    ++ (codes "\nstates " ++ (decimal (length (c .states))
-    ++ (codes "\ndenominator " ++ (decimal (c .denominator)
-    ++ (codes "\nchoices " ++ (decimal (length (all-choices (c .states)))
-    ++ (codes "\nbranches " ++ (decimal (length (all-branches (all-choices (c .states))))
-    ++ (codes "\n" ++ laid-states listing (c .states)))))))))))
+show-text bytes c = totals-text (totals-of bytes c) ++ laid-states listing (c .states)

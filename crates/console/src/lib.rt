@@ -1,6 +1,9 @@
 // The command line as functions on values: text in, text out.
 // It may use the crates model, text, tables, ladder and layers.
+pub mod counts;
 pub mod labels;
 pub mod lay;
+pub mod listing;
 pub mod style;
+pub mod totals;
 pub mod words;

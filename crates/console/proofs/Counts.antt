@@ -1,2 +1,0 @@
--- How many choices and branches there are.
-use mathlib.Core.Path.{_≡_, refl, ap, _∙_, sym}
