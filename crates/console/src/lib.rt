@@ -1,9 +1,12 @@
 // The command line as functions on values: text in, text out.
 // It may use the crates model, text, tables, ladder and layers.
+pub mod caret;
 pub mod counts;
+pub mod drawn;
 pub mod labels;
 pub mod lay;
 pub mod listing;
+pub mod piece;
 pub mod style;
 pub mod totals;
 pub mod words;
