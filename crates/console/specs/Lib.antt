@@ -2,3 +2,4 @@ pub mod Words
 pub mod Carets
 pub mod Layouts
 pub mod Listings
+pub mod Commands

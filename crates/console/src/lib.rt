@@ -1,11 +1,13 @@
 // The command line as functions on values: text in, text out.
 // It may use the crates model, text, tables, ladder and layers.
 pub mod caret;
+pub mod command;
 pub mod counts;
 pub mod drawn;
 pub mod labels;
 pub mod lay;
 pub mod listing;
+pub mod parse;
 pub mod piece;
 pub mod style;
 pub mod totals;
