@@ -95,5 +95,5 @@ rows-small m l s i =
     let all = rows-short (m .states) (m .denominator) rs (l .few-states) (l .rows s) in
     let few = l .few-choices s in
     let whole : length (all-branches rs) ≡ length (all-branches (take i rs)) + length (all-branches (drop i rs)) =
-        ap (λ t. length (all-branches t)) (sym (take-append-drop i rs)) ∙ ap length (all-branches-append (take i rs) (drop i rs)) ∙ length-append (all-branches (take i rs)) (all-branches (drop i rs)) in
+    ap (λ t. length (all-branches t)) (sym (take-append-drop i rs)) ∙ ap length (all-branches-append (take i rs) (drop i rs)) ∙ length-append (all-branches (take i rs)) (all-branches (drop i rs)) in
     omega (arith, all, few, whole)

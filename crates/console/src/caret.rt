@@ -45,7 +45,9 @@ fn caret_place(line: &[u8], field: Option<(usize, usize)>) -> usize
 {
     match field {
         None => 0,
-        Some((field, length)) => field_place(line, field).saturating_add(length).min(line.len()),
+        Some((field, length)) => field_place(line, field)
+            .saturating_add(length)
+            .min(line.len()),
     }
 }
 
@@ -60,7 +62,11 @@ fn add_drawn(out: &mut String, which: Drawn, line: &[u8]) -> Result<(), AllocErr
 }
 
 // Adds a line as it is shown, and a caret under the place of the fault.
-fn add_marked(out: &mut String, line: &[u8], field: Option<(usize, usize)>) -> Result<(), AllocError>
+fn add_marked(
+    out: &mut String,
+    line: &[u8],
+    field: Option<(usize, usize)>,
+) -> Result<(), AllocError>
     ensures { λ r. ⌜ made r (λ _. string-bytes (now (out .exit)) ≡ string-bytes (now (out .entry)) ++ marked field (now (line .entry))) ⌝ }
 {
     add_drawn(out, Drawn::Shown, line)?;
@@ -74,11 +80,20 @@ fn add_marked(out: &mut String, line: &[u8], field: Option<(usize, usize)>) -> R
 fn front(line: &[u8], most: usize) -> &[u8]
     ensures { λ r. ⌜ now r ≡ take most (now (line .entry)) ⌝ }
 {
-    if line.len() <= most { line } else { &line[0..most] }
+    if line.len() <= most {
+        line
+    } else {
+        &line[0..most]
+    }
 }
 
 // Adds the line of the text with this number, from 1, with a caret under the place of the fault: nothing for line 0.
-fn add_mark(out: &mut String, text: &[u8], number: usize, field: Option<(usize, usize)>) -> Result<(), AllocError>
+fn add_mark(
+    out: &mut String,
+    text: &[u8],
+    number: usize,
+    field: Option<(usize, usize)>,
+) -> Result<(), AllocError>
     ensures { λ r. ⌜ made r (λ _. string-bytes (now (out .exit)) ≡ string-bytes (now (out .entry)) ++ mark number field (now (text .entry))) ⌝ }
 {
     if number == 0 {

@@ -17,7 +17,12 @@ use std::alloc::AllocError;
 use std::alloc::Global;
 
 // A model text around the lines of its states.
-fn framed(heap: Global, states: usize, denominator: u32, lines: &String) -> Result<String, AllocError>
+fn framed(
+    heap: Global,
+    states: usize,
+    denominator: u32,
+    lines: &String,
+) -> Result<String, AllocError>
     ensures { λ r. ⌜ made r (λ s. string-bytes s ≡ framed states denominator (string-bytes (now (lines .entry)))) ⌝ }
 {
     format!(heap, "mdp\t{states}\t{denominator}\n{lines}end\n")

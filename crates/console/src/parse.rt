@@ -72,7 +72,11 @@ fn ladder_named(name: &[u8]) -> Option<ModelName>
 fn model_named(name: &[u8]) -> Option<ModelName>
     ensures { λ r. ⌜ r ≡ model-named (now (name .entry)) ⌝ }
 {
-    if names_ladder(name) { ladder_named(name) } else { Some(ModelName::File) }
+    if names_ladder(name) {
+        ladder_named(name)
+    } else {
+        Some(ModelName::File)
+    }
 }
 
 // What one word asks for.
@@ -125,7 +129,11 @@ fn by_count(count: usize, verb: Option<Verb>, name: Option<ModelName>) -> Comman
 pub fn word_at(args: &[String], index: usize) -> &str
     ensures { λ r. ⌜ now r ≡ word-at index (map string-bytes (now (args .entry))) ⌝ }
 {
-    if index < args.len() { args[index].as_str() } else { "" }
+    if index < args.len() {
+        args[index].as_str()
+    } else {
+        ""
+    }
 }
 
 // What the words of the command line, after the program's name, ask for.

@@ -10,9 +10,9 @@ use Rattle.std.specs.Of.Vec.{vec-items}
 use Rattle.std.specs.Written.{decimal}
 use Rattle.std.proofs.shelf.Decimals.{decimal-digit}
 use Rattle.std.proofs.shelf.Lists.{length-map}
-use Rattle.tables.specs.declared.flat.Flat.{Flat}
-use Rattle.tables.specs.Flats.{letters, content, StartsOk, OffsetsOk}
-use Rattle.tables.specs.Fresh.{FreshFlat, fresh-content}
+use Rattle.flat.specs.declared.flat.Flat.{Flat}
+use Rattle.flat.specs.Flats.{letters, content, StartsOk, OffsetsOk}
+use Rattle.flat.specs.Fresh.{FreshFlat, fresh-content}
 use Rattle.tables.specs.Keeps.{keeps}
 
 -- the content of one state is within the limits

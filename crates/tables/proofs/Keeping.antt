@@ -9,7 +9,7 @@ use Rattle.std.proofs.shelf.Tests.{and-from, le-leb, lt-ltb, eq-eqb}
 use Rattle.model.specs.Mdp.{Row, total, Ascends, LawfulRow, Each, Lawful}
 use Rattle.text.specs.Contents.{State, Content, no-state, model-of, all-choices, all-branches}
 use Rattle.text.specs.Texts.{text-of, Within}
-use Rattle.text.proofs.CompleteFields.{between-from}
+use Rattle.text_laws.proofs.CompleteFields.{between-from}
 use Rattle.tables.specs.Keeps.{row-ascends, rows-keep, states-keep, keeps}
 use Rattle.tables.specs.KeepsLaws.{StateKept}
 

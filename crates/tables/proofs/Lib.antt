@@ -1,10 +1,4 @@
-pub mod Flattening
 pub mod Keeping
-pub mod Told
-pub mod ToldFlat
-pub mod Following
-pub mod Growing
-pub mod Reading
 pub mod Spans
 pub mod FreshLaws
 pub mod Writes

@@ -12,8 +12,8 @@ use Rattle.model.specs.declared.branch.Branch.{Branch}
 use Rattle.model.specs.declared.labels.Labels.{Labels}
 use Rattle.model.specs.Mdp.{Row, no-labels, row}
 use Rattle.text.specs.Contents.{no-state, model-of}
-use Rattle.tables.specs.declared.flat.Flat.{Flat}
-use Rattle.tables.specs.Flats.{letters, content}
+use Rattle.flat.specs.declared.flat.Flat.{Flat}
+use Rattle.flat.specs.Flats.{letters, content}
 use Rattle.tables.specs.Spans.{row-at, state-at, SpanOf}
 
 -- how many choices state s has

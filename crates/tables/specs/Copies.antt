@@ -7,7 +7,7 @@ use Rattle.std.specs.declared.result.Result.the-variants.{Ok, Err}
 use Rattle.text.specs.Faults.{file-fault-number, no-room-number}
 use Rattle.tables.specs.declared.copy.CopyFault.{CopyFault}
 use Rattle.tables.specs.declared.copy.CopyFault.the-variants.{Load, Write}
-use Rattle.tables.specs.declared.flat.Flat.{Flat}
+use Rattle.flat.specs.declared.flat.Flat.{Flat}
 use Rattle.tables.specs.Loads.{Accepted, Rejected}
 use Rattle.tables.specs.Writes.{Wrote, NotWritten}
 

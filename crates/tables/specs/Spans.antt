@@ -7,8 +7,8 @@ use Rattle.std.specs.Of.Vec.{vec-items}
 use Rattle.model.specs.declared.branch.Branch.{Branch}
 use Rattle.model.specs.Mdp.{Row}
 use Rattle.text.specs.Contents.{State}
-use Rattle.tables.specs.declared.flat.Flat.{Flat}
-use Rattle.tables.specs.Flats.{piece, letters, flat-state}
+use Rattle.flat.specs.declared.flat.Flat.{Flat}
+use Rattle.flat.specs.Flats.{piece, letters, flat-state}
 
 -- the row of choice number k, counted over all states
 abbrev pub row-at : Flat → ℕ → Row

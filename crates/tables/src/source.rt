@@ -4,7 +4,7 @@ ghost use lib.ListN.{length, getD};
 ghost use Rattle.std.specs.Of.Vec.{vec-items};
 ghost use Rattle.model.specs.Mdp.{row, over};
 ghost use Rattle.text.specs.Contents.{model-of};
-ghost use Rattle.tables.specs.Flats.{content};
+ghost use Rattle.flat.specs.Flats.{content};
 ghost use Rattle.tables.specs.KeepsLaws.{keeps-lawful};
 ghost use Rattle.tables.specs.Spans.{SpanOf};
 use crate::tables::Tables;

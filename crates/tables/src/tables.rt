@@ -3,9 +3,9 @@ ghost use mathlib.Core.Bool.{true};
 ghost use Prim.Native.Nat.{_+_};
 ghost use lib.ListN.{length};
 ghost use Rattle.std.specs.Of.Vec.{vec-items};
-ghost use Rattle.tables.specs.Flats.{content, StartsOk, OffsetsOk};
+ghost use Rattle.flat.specs.Flats.{content, StartsOk, OffsetsOk};
 ghost use Rattle.tables.specs.Keeps.{keeps};
-use crate::flat::Flat;
+use flat::flat::Flat;
 
 // The tables of a loaded model. `kept` holds the model, which is always within the limits; `draft` is where the next
 // one is read to, so that a refused text leaves the model as it was.

@@ -3,7 +3,7 @@ ghost use lib.ListN.{length};
 ghost use Rattle.std.specs.Of.Vec.{vec-items};
 ghost use Rattle.text.specs.Cuts.{spelled};
 ghost use Rattle.text.specs.Texts.{choices-lines, states-lines, text-of};
-ghost use Rattle.tables.specs.Flats.{content};
+ghost use Rattle.flat.specs.Flats.{content};
 ghost use Rattle.tables.specs.Spans.{row-at, state-at};
 ghost use Rattle.tables.specs.Writes.{Put, Written, choice-text, state-text};
 use crate::put::put_bytes;

@@ -7,7 +7,7 @@ use Rattle.std.specs.Of.Vec.{vec-items}
 use Rattle.model.specs.declared.labels.Labels.{Labels}
 use Rattle.text.specs.Cuts.{spelled}
 use Rattle.text.specs.Texts.{state-line, choices-lines}
-use Rattle.tables.specs.declared.flat.Flat.{Flat}
+use Rattle.flat.specs.declared.flat.Flat.{Flat}
 use Rattle.tables.specs.Spans.{state-at}
 use Rattle.tables.specs.Writes.{Put, line-text, state-text}
 use Rattle.tables.proofs.Spans.{letters-here}

@@ -8,7 +8,7 @@ use Rattle.std.specs.Iters.{counting}
 use Rattle.std.specs.Of.Vec.{vec-items}
 use Rattle.text.specs.Cuts.{spelled}
 use Rattle.text.specs.Texts.{states-lines}
-use Rattle.tables.specs.Flats.{content}
+use Rattle.flat.specs.Flats.{content}
 use Rattle.tables.specs.Spans.{state-at}
 use Rattle.tables.specs.Writes.{state-text}
 use Rattle.tables.proofs.Spans.{states-are}

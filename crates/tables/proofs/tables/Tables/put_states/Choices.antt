@@ -2,7 +2,7 @@ use lib.ListN.{length}
 use Rattle.std.specs.Of.Vec.{vec-items}
 use Rattle.text.specs.Cuts.{spelled}
 use Rattle.text.specs.Texts.{states-lines}
-use Rattle.tables.specs.Flats.{content}
+use Rattle.flat.specs.Flats.{content}
 use Rattle.tables.specs.Spans.{state-at}
 use Rattle.tables.proofs.Writes.{Left}
 use Rattle.tables.proofs.WritesTexts.{states-from}

@@ -7,9 +7,9 @@ use lib.ListN.{length}
 use Rattle.std.specs.Of.Vec.{vec-items}
 use Rattle.text.specs.Cuts.{spelled}
 use Rattle.text.specs.Texts.{header-line, states-lines, text-of}
-use Rattle.tables.specs.declared.flat.Flat.{Flat}
+use Rattle.flat.specs.declared.flat.Flat.{Flat}
 use Rattle.tables.specs.declared.tables.Tables.{Tables}
-use Rattle.tables.specs.Flats.{content}
+use Rattle.flat.specs.Flats.{content}
 use Rattle.tables.specs.KeepsLaws.{keeps-parts}
 use Rattle.tables.specs.Writes.{Put, line-text}
 use Rattle.tables.proofs.Spans.{states-count}

@@ -2,7 +2,7 @@ use Prim.Native.Nat.{_≤_}
 use native.Mathlib.Omega.{arith}
 use lib.ListN.{length}
 use Rattle.text.specs.Texts.{text-of}
-use Rattle.tables.specs.Flats.{content}
+use Rattle.flat.specs.Flats.{content}
 use Rattle.tables.proofs.Writes.{put-count, put-wrote}
 use Rattle.tables.proofs.tables.Tables.write.Needs as need
 

@@ -1,0 +1,15 @@
+pub mod Nest
+pub mod SoundAsks
+pub mod SoundFields
+pub mod SoundCuts
+pub mod SoundLines
+pub mod SoundRest
+pub mod Sound
+pub mod Complete
+pub mod CompleteCuts
+pub mod CompleteFields
+pub mod CompleteFits
+pub mod CompletePlaces
+pub mod CompleteStates
+pub mod CompleteTold
+pub mod CompleteWalk

@@ -1,0 +1,102 @@
+-- A text that is not refused describes the content that its lines tell.
+use mathlib.Core.Path.{_≡_, refl, sym, ap, ap₂, subst, _∙_}
+use mathlib.Core.Logic.{⊎-elim}
+use mathlib.Core.Bool.{true, false}
+use mathlib.Core.List.{List, [], _∷_, _++_}
+use Prim.Native.Nat.{ℕ, zero, suc, _+_, _-_, _≤_, _<_}
+use native.Mathlib.Omega.{arith}
+use lib.Dec.{eqb, leb, lit<}
+use lib.ListN.{length, getD, length-append}
+use Rattle.std.specs.declared.option.Option.the-variants.{Some, None}
+use Rattle.std.proofs.shelf.Tests.{both-ways, eqb-true, leb-true, cases-lt}
+use Rattle.std.proofs.shelf.Lists.{getD-past}
+use Rattle.model.specs.Mdp.{LawfulRow, Each, Lawful}
+use Rattle.text.specs.declared.word.Word.{Word}
+use Rattle.text.specs.declared.word.Word.the-variants as word
+use Rattle.text.specs.Cuts.{Line, lines, spelled}
+use Rattle.text.specs.Words.{listed}
+use Rattle.text.specs.Contents.{State, Content, no-state, model-of, all-choices, all-branches}
+use Rattle.text.specs.Texts.{end-line, row-lines, choices-lines, states-lines, content-lines, text-of, header-line, Describes}
+use Rattle.text.specs.Questions.{word, number}
+use Rattle.text.specs.Refusals.{lines-refusal, refusal}
+use Rattle.text_laws.proofs.Nest.{Nested, nest-line, nest, content-of}
+use Rattle.text_laws.proofs.CompleteStates.{LawfulState}
+use Rattle.text_laws.proofs.SoundAsks.{some-none, ask-next-none, or-next-none, passes}
+use Rattle.text_laws.proofs.SoundCuts.{spelled-lines}
+use Rattle.text_laws.proofs.SoundLines.{some-word, IsHeader, is-header}
+use Rattle.text_laws.proofs.SoundRest.{Rest, count-more, rest}
+
+-- what holds of each element holds of one
+each-at : {A : Type 0} (P : A → Type 0) (xs : List A) (i : ℕ) (d : A) → Each P xs → i < length xs → P (getD xs i d)
+each-at P [] i d h l = absurd (omega arith)
+each-at P (x ∷ xs) zero d h l = h .0
+each-at P (x ∷ xs) (suc i) d h l = each-at P xs i d (h .1) (omega arith)
+
+-- a state has no more choices than all states together
+choices-of-one : (ss : List State) (s : ℕ) → length (getD ss s no-state .choices) ≤ length (all-choices ss)
+choices-of-one [] s = omega arith
+choices-of-one (t ∷ ss) zero = omega (arith, length-append (t .choices) (all-choices ss))
+choices-of-one (t ∷ ss) (suc s) = omega (arith, choices-of-one ss s, length-append (t .choices) (all-choices ss))
+
+-- a content of lawful states, with all numbers in range, is that of a lawful model
+lawful-content : (c : Content) → (1 ≤ length (c .states)) × (length (c .states) ≤ 512) → (1 ≤ c .denominator) × (c .denominator ≤ 1000000) → length (all-choices (c .states)) ≤ 2048 → Each (LawfulState (length (c .states)) (c .denominator)) (c .states) → Lawful (model-of c)
+lawful-content c n d few each =
+    let past : (s : ℕ) → length (c .states) ≤ s → getD (c .states) s no-state ≡ no-state = λ s h. getD-past (c .states) s no-state h in
+    record {
+      some-state = n .0;
+      few-states = n .1;
+      some-unit = d .0;
+      few-units = d .1;
+      some-choice = λ s h. each-at (LawfulState _ _) (c .states) s no-state each h .some-choice;
+      few-choices = λ s. omega (arith, choices-of-one (c .states) s, few);
+      rows = λ s. ⊎-elim (λ h. each-at (LawfulState _ _) (c .states) s no-state each h .rows) (λ h. subst (λ t. Each (LawfulRow (length (c .states)) (c .denominator)) (t .choices)) (sym (past s h)) tt) (cases-lt s (length (c .states)));
+      sixteen-letters = λ s. ⊎-elim (λ h. each-at (LawfulState _ _) (c .states) s no-state each h .labels) (λ h. ap (λ t. length (t .labels)) (past s h)) (cases-lt s (length (c .states)));
+      none-past = λ s h. ap (λ t. t .choices) (past s h);
+      no-labels-past = λ s h. ap (λ t. t .labels) (past s h);
+    }
+
+-- what is said of lines that tell a content: they are its lines, and it is within the limits
+abbrev pub Told : List Line → Content → Type 0
+Told ls c = (ls ≡ content-lines c) × Lawful (model-of c) × (length (all-choices (c .states)) ≤ 2048) × (length (all-branches (all-choices (c .states))) ≤ 4096)
+
+-- a header and lines after it that tell states
+told-from : (l : Line) (ls : List Line) (n : Nested) → word l ≡ Some word.Mdp → IsHeader l → Rest word.Mdp (l ∷ []) ls n → Told (l ∷ ls) (record { denominator = number 2 l; states = n .states })
+told-from l ls n e h r =
+    let none : 0 + length (n .states) ≡ number 1 l = ap (λ k. k + length (n .states)) (sym (count-more word.State word.Mdp l [] e)) ∙ r .all-states in
+    let all : number 1 l ≡ length (n .states) = omega (arith, none) in
+    let few : length (all-choices (n .states)) ≤ 2048 = omega (arith, r .few-choices) in (
+      ap₂ (λ x xs. x ∷ xs) (h .line ∙ ap (λ k. header-line k (number 2 l)) all) (r .told ∙ ap₂ (λ row rows. row-lines row ++ (choices-lines rows ++ (states-lines (n .states) ++ (end-line ∷ [])))) (r .row-fits) (r .rows-fit)),
+      lawful-content (record { denominator = number 2 l; states = n .states }) (omega (arith, h .states)) (h .denominator) few (subst (λ k. Each (LawfulState k (number 2 l)) (n .states)) all (r .states)),
+      few,
+      omega (arith, r .few-branches),
+    )
+
+-- the first word is `mdp`
+first-word : (w : Word) → listed w (word.Mdp ∷ []) ≡ true → w ≡ word.Mdp
+first-word word.Mdp h = refl
+first-word word.State h = absurd (both-ways false refl h)
+first-word word.Choice h = absurd (both-ways false refl h)
+first-word word.Branch h = absurd (both-ways false refl h)
+first-word word.End h = absurd (both-ways false refl h)
+
+-- lines that no question refuses are the lines of the content that they tell, and that is within the limits
+pub sound : (ls : List Line) → lines-refusal [] 1 ls ≡ None → Told ls (content-of ls)
+sound [] f = absurd (some-none _ f)
+sound (l ∷ ls) f =
+    let p = passes [] 1 l ls f in
+    let s = some-word (word.Mdp ∷ []) (word l) (p .0 .word) in
+    let e : word l ≡ Some word.Mdp = s .1 ∙ ap (λ w. Some w) (first-word (s .0) (s .2)) in
+    subst (λ n. Told (l ∷ ls) (record { denominator = number 2 l; states = n .states })) (ap (λ o. nest-line o l (nest ls)) (sym e))
+    (told-from l ls (nest ls) e (is-header [] l e (p .0)) (rest word.Mdp l [] 2 ls e (lit< tt) (p .1)))
+
+-- a text that is not refused describes the content that its lines tell
+pub describes : (text : List ℕ) → refusal text ≡ None → Describes text (content-of (lines text))
+describes text e =
+    let short = ask-next-none (leb (length text) 65536) _ _ e in
+    let ended = ask-next-none (eqb (getD text (length text - 1) 0) 10) _ _ (short .1) in
+    let t = sound (lines text) (or-next-none (lines-refusal [] 1 (lines text)) None (ended .1) .0) in
+    let same : text ≡ text-of (content-of (lines text)) = sym (spelled-lines text (eqb-true _ 10 (ended .0))) ∙ ap spelled (t .0) in
+    record {
+      within = record { lawful = t .1; few-choices = t .2; few-branches = t .3; short = subst (λ bytes. length bytes ≤ 65536) same (leb-true _ _ (short .0)) };
+      is = same;
+    }
