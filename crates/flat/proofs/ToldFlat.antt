@@ -13,7 +13,8 @@ use Rattle.text.specs.Contents.{State, Content, all-choices, all-branches}
 use Rattle.text.specs.Texts.{branch-line, row-lines, choices-lines, states-lines, content-lines, end-line, Within}
 use Rattle.text_laws.proofs.Nest.{branch-of}
 use Rattle.text_laws.proofs.CompleteFields.{amount-decimal, labels-read}
-use Rattle.text_laws.proofs.CompleteStates.{LawfulState, lawful-states, Small, small-rows, each-map}
+use Rattle.text_laws.proofs.CompleteTold.{branch-told}
+use Rattle.text_laws.proofs.States.{LawfulState, lawful-states, Small, small-rows, each-map}
 use Rattle.flat.specs.Flats.{letters, flat-states, StartsOk, OffsetsOk}
 use Rattle.flat.proofs.Told.{told-labels, told-starts, told-offsets, told-branches}
 use Rattle.flat.proofs.Flattening.{sums, labels-in, starts-of, offsets-of, branches-of, unflat, starts-ok, offsets-ok, length-starts}
@@ -87,14 +88,10 @@ states-offsets [] k = refl
 states-offsets (s ∷ ss) k =
     ap (told-offsets k) (append-assoc (choices-lines (s .choices)) (states-lines ss) last) ∙ choices-offsets k (s .choices) (all-choices ss) (states-lines ss ++ last) (states-offsets ss)
 
--- the line of a branch writes that branch
-branch-read : (b : Branch) → Small b → branch-of (branch-line b) ≡ b
-branch-read b h = λ i. record { target = amount-decimal (b .target) (h .target) i; weight = amount-decimal (b .weight) (h .weight) i }
-
 -- the lines of a row tell its branches
 row-branches : (r : Row) (rest : List Line) → Each Small r → told-branches (row-lines r ++ rest) ≡ r ++ told-branches rest
 row-branches [] rest h = refl
-row-branches (b ∷ bs) rest h = ap₂ _∷_ (branch-read b (h .0)) (row-branches bs rest (h .1))
+row-branches (b ∷ bs) rest h = ap₂ _∷_ (branch-told b (h .0)) (row-branches bs rest (h .1))
 
 -- the lines of choices, before lines that tell the branches of more, tell those of all
 choices-branches : (rs more : List Row) (rest : List Line) → Each (Each Small) rs → told-branches rest ≡ all-branches more → told-branches (choices-lines rs ++ rest) ≡ all-branches (rs ++ more)

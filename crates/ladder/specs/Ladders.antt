@@ -4,12 +4,7 @@ use mathlib.Core.Bool.{Bool, true, cond}
 use Prim.Native.Nat.{ℕ, _+_, _-_}
 use lib.Dec.{ltb, eqb}
 use lib.ListN.{set}
-use Rattle.model.specs.declared.branch.Branch.{Branch}
-use Rattle.model.specs.Mdp.{Mdp, Row, no-labels}
-
--- the branch to the state t with the weight w
-abbrev pub to : ℕ → ℕ → Branch
-to t w = record { target = t; weight = w }
+use Rattle.model.specs.Mdp.{Mdp, Row, no-labels, to}
 
 -- the set of labels that has only letter number k, a being number 0
 abbrev pub only : ℕ → List Bool

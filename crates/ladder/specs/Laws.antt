@@ -7,8 +7,8 @@ use native.Mathlib.Omega.{arith}
 use lib.Dec.{ltb, eqb}
 use lib.ListN.{length}
 use Rattle.std.proofs.shelf.Tests.{cond-both, ltb-true, ltb-false, eqb-true, eqb-false}
-use Rattle.model.specs.Mdp.{Row, Lawful, LawfulRow, Each, no-labels}
-use Rattle.ladder.specs.Ladders.{ladder-model, ladder-labels, ladder-choices, climb, to, only}
+use Rattle.model.specs.Mdp.{Row, Lawful, LawfulRow, Each, no-labels, to}
+use Rattle.ladder.specs.Ladders.{ladder-model, ladder-labels, ladder-choices, climb, only}
 
 module _ (r d w : ℕ) (rungs : (1 ≤ r) × (r ≤ 511)) (units : (1 ≤ d) × (d ≤ 1000000)) (up : (1 ≤ w) × (w ≤ d)) where
   -- the row that stays

@@ -9,8 +9,8 @@ use lib.Dec.{ltb, eqb}
 use lib.ListN.{length, getD, set, replicate}
 use Rattle.std.proofs.shelf.Lists.{getD-past, getD-set-same, getD-set-other}
 use Rattle.std.proofs.shelf.Tests.{cases-eq, eq-eqb, ne-eqb, lt-ltb, cond-true, cond-false, and-from, and-right}
-use Rattle.model.specs.Mdp.{Mdp, Row, row}
-use Rattle.layers.specs.Holds.{held, held-model, is-held, back, stay}
+use Rattle.model.specs.Mdp.{Mdp, Row, row, to}
+use Rattle.layers.specs.Holds.{held, held-model, is-held, stay}
 
 -- the model m with other choices
 abbrev with-choices : Mdp → (ℕ → List Row) → Mdp
@@ -49,7 +49,7 @@ module _ (m : Mdp) (flags : List Bool) (s c : ℕ) (e : true ≡ is-held m flags
   held-row = ap (λ rows. getD rows c []) (cond-true (is-held m flags s) (stay (m .denominator) s) (m .choices s) (sym e))
 
   -- its first choice goes back to it
-  pub held-first : c ≤ 0 → row (held-model m flags) s c ≡ back (m .denominator) s ∷ []
+  pub held-first : c ≤ 0 → row (held-model m flags) s c ≡ to s (m .denominator) ∷ []
   held-first h = let z : c ≡ 0 = omega arith in held-row ∙ ap (λ k. getD (stay (m .denominator) s) k []) z
 
   -- it has no other

@@ -4,16 +4,11 @@ use mathlib.Core.Bool.{Bool, false, cond, _&&_}
 use Prim.Native.Nat.{ℕ}
 use lib.Dec.{ltb, eqb}
 use lib.ListN.{getD}
-use Rattle.model.specs.declared.branch.Branch.{Branch}
-use Rattle.model.specs.Mdp.{Mdp, Row}
+use Rattle.model.specs.Mdp.{Mdp, Row, to}
 
--- the one branch of a held state s: back to itself with the whole denominator d
-abbrev pub back : ℕ → ℕ → Branch
-back d s = record { target = s; weight = d }
-
--- the one choice of a held state
+-- the one choice of a held state s: back to itself with the whole denominator d
 abbrev pub stay : ℕ → ℕ → List Row
-stay d s = (back d s ∷ []) ∷ []
+stay d s = (to s d ∷ []) ∷ []
 
 -- the model m with the state s held: s only stays, and the rest is as it was
 abbrev pub held : ℕ → Mdp → Mdp

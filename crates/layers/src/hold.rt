@@ -1,7 +1,8 @@
 ghost use mathlib.Core.Path.{_≡_};
 ghost use mathlib.Core.Bool.{false};
 ghost use lib.ListN.{replicate};
-ghost use Rattle.layers.specs.Holds.{held-model, is-held, back};
+ghost use Rattle.model.specs.Mdp.{to};
+ghost use Rattle.layers.specs.Holds.{held-model, is-held};
 ghost use Rattle.layers.specs.HoldLaws.{held-lawful};
 ghost use Rattle.layers.specs.HoldAnswers.{Ran};
 use crate::fault::HoldFault;
@@ -52,7 +53,7 @@ impl<S: Source> Hold<S> {
 
     // The one branch of a held state: back to itself with the whole denominator.
     fn back(&self, state: usize) -> Branch
-        ensures { λ r. ⌜ r ≡ back (S·Source .model (now (self .entry) .below) .denominator) state ⌝ }
+        ensures { λ r. ⌜ r ≡ to state (S·Source .model (now (self .entry) .below) .denominator) ⌝ }
     {
         Branch {
             target: state,

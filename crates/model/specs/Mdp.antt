@@ -21,9 +21,13 @@ pub record Mdp : Type 0 where
 abbrev pub no-labels : List Bool
 no-labels = replicate 16 false
 
+-- the branch to a target, with a weight
+abbrev pub to : ℕ → ℕ → Branch
+to t w = record { target = t; weight = w }
+
 -- what is told of a branch that does not exist
 abbrev pub no-branch : Branch
-no-branch = record { target = 0; weight = 0 }
+no-branch = to 0 0
 
 -- the branches of choice c of state s; none where there is no such choice
 abbrev pub row : Mdp → ℕ → ℕ → Row

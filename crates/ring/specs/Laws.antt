@@ -6,8 +6,8 @@ use native.Mathlib.Omega.{arith}
 use lib.Dec.{ltb, eqb}
 use lib.ListN.{length}
 use Rattle.std.proofs.shelf.Tests.{cond-both, ltb-true, ltb-false, eqb-true, eqb-false}
-use Rattle.model.specs.Mdp.{Row, Lawful, LawfulRow, Each, no-labels}
-use Rattle.ring.specs.Rings.{ring-model, turn, to}
+use Rattle.model.specs.Mdp.{Row, Lawful, LawfulRow, Each, no-labels, to}
+use Rattle.ring.specs.Rings.{ring-model, turn}
 
 module _ (n d w : ℕ) (round : (2 ≤ n) × (n ≤ 512)) (divisible : d ≤ 1000000) (weighted : (1 ≤ w) × (w < d)) where
   -- the row of a state

@@ -3,12 +3,7 @@ use mathlib.Core.List.{List, [], _∷_}
 use mathlib.Core.Bool.{cond}
 use Prim.Native.Nat.{ℕ, _+_, _-_}
 use lib.Dec.{ltb, eqb}
-use Rattle.model.specs.declared.branch.Branch.{Branch}
-use Rattle.model.specs.Mdp.{Mdp, Row, no-labels}
-
--- the branch to the state t with the weight w
-abbrev pub to : ℕ → ℕ → Branch
-to t w = record { target = t; weight = w }
+use Rattle.model.specs.Mdp.{Mdp, Row, no-labels, to}
 
 -- stays with d - w, goes on to the next state with w; the last state goes on to 0, which comes first there
 abbrev pub turn : ℕ → ℕ → ℕ → ℕ → Row

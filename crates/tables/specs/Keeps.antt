@@ -19,10 +19,10 @@ abbrev pub rows-keep : ℕ → ℕ → List Row → Bool
 rows-keep n d [] = true
 rows-keep n d (r ∷ rs) = (row-ascends n 0 r && eqb (total r) d) && rows-keep n d rs
 
--- each state has sixteen flags, 1 to 2,048 choices, and lawful rows
+-- each state has sixteen flags, a choice at least, and lawful rows
 abbrev pub states-keep : ℕ → ℕ → List State → Bool
 states-keep n d [] = true
-states-keep n d (s ∷ ss) = (eqb (length (s .labels)) 16 && (between 1 2048 (length (s .choices)) && rows-keep n d (s .choices))) && states-keep n d ss
+states-keep n d (s ∷ ss) = (eqb (length (s .labels)) 16 && (leb 1 (length (s .choices)) && rows-keep n d (s .choices))) && states-keep n d ss
 
 -- the content is within the limits
 abbrev pub keeps : Content → Bool

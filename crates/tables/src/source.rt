@@ -5,7 +5,7 @@ ghost use Rattle.std.specs.Of.Vec.{vec-items};
 ghost use Rattle.model.specs.Mdp.{row, over};
 ghost use Rattle.text.specs.Contents.{model-of};
 ghost use Rattle.flat.specs.Flats.{content};
-ghost use Rattle.tables.specs.KeepsLaws.{keeps-lawful};
+ghost use Rattle.tables.specs.KeepsLaws.{keeps-within};
 ghost use Rattle.tables.specs.Spans.{SpanOf};
 use crate::tables::Tables;
 use model::branch::Branch;
@@ -16,7 +16,7 @@ use model::source::Source;
 pub impl Source for Tables as TablesSource {
     ghost model = { λ t. model-of (content (t .kept)) };
 
-    ghost lawful = { λ t. keeps-lawful (content (t .kept)) (t .within) };
+    ghost lawful = { λ t. keeps-within (content (t .kept)) (t .within) .lawful };
 
     fn states(&self) -> usize {
         self.kept.labels.len()

@@ -11,7 +11,7 @@ use Rattle.model.specs.Mdp.{Row, Each}
 use Rattle.text.specs.Cuts.{Line, onto, cut, fields, each-fields, lines, parted, spelled}
 use Rattle.text.specs.Contents.{State, Content}
 use Rattle.text.specs.Texts.{end-line, row-lines, choices-lines, states-lines, content-lines, text-of, Within}
-use Rattle.text_laws.proofs.CompleteStates.{each-map, each-append, LawfulState, lawful-states, Small, small-rows}
+use Rattle.text_laws.proofs.States.{each-map, each-append, LawfulState, lawful-states, Small, small-rows}
 use Rattle.text_laws.proofs.CompleteFields.{Visible, visible-decimal, visible-labels}
 
 -- the bytes do not contain this one

@@ -15,6 +15,7 @@ use Rattle.std.proofs.shelf.Numerals.{numerals-by-value, tells-allDigits, digit
 use Rattle.std.proofs.shelf.Tests.{leb-true, eq-eqb, ne-eqb, le-leb, and-parts, and-from, or-left, or-right, or-from, not-from-false, cases-lt}
 use Rattle.model.specs.Mdp.{Each}
 use Rattle.text.specs.Fields.{amount, between, lawful-number, ascending, lawful-labels, among, letters-from, or-else, dash, labels-text, flags-from, labels-of}
+use Rattle.text_laws.proofs.SoundFields.{flags-below}
 
 -- a number that is written is read back
 pub amount-decimal : (n : ℕ) → n < 10 ^ 7 → amount (decimal n) ≡ n
@@ -58,22 +59,16 @@ among-below x l [] h = refl
 among-below x l (true ∷ flags) h = or-from (eqb l x) (among x (letters-from (l + 1) flags)) (ne-eqb l x (omega arith)) (among-below x (l + 1) flags (omega arith))
 among-below x l (false ∷ flags) h = among-below x (l + 1) flags (omega arith)
 
--- a byte before the first letter sets no flag
-flags-below : (x l n : ℕ) (bytes : List ℕ) → x < l → flags-from l n (x ∷ bytes) ≡ flags-from l n bytes
-flags-below x l zero bytes h = refl
-flags-below x l (suc n) bytes h =
-    ap₂ _∷_ (ap (λ t. t || among l bytes) (ne-eqb x l (omega arith))) (flags-below x (l + 1) n bytes (omega arith))
-
 -- flags are read back from their letters
 flags-letters : (l : ℕ) (flags : List Bool) → flags-from l (length flags) (letters-from l flags) ≡ flags
 flags-letters l [] = refl
 flags-letters l (true ∷ flags) =
-    ap₂ _∷_ (or-left (eqb l l) (among l (letters-from (l + 1) flags)) (eq-eqb l l refl)) (flags-below l (l + 1) (length flags) (letters-from (l + 1) flags) (omega arith) ∙ flags-letters (l + 1) flags)
+    ap₂ _∷_ (or-left (eqb l l) (among l (letters-from (l + 1) flags)) (eq-eqb l l refl)) (flags-below (l + 1) (length flags) l (letters-from (l + 1) flags) (omega arith) ∙ flags-letters (l + 1) flags)
 flags-letters l (false ∷ flags) = ap₂ _∷_ (among-below l (l + 1) flags (omega arith)) (flags-letters (l + 1) flags)
 
 -- a dash in the place of no letters sets no flag
 flags-dash : (n : ℕ) (bytes : List ℕ) → flags-from 97 n (or-else bytes dash) ≡ flags-from 97 n bytes
-flags-dash n [] = flags-below 45 97 n [] (omega arith)
+flags-dash n [] = flags-below 97 n 45 [] (omega arith)
 flags-dash n (c ∷ cs) = refl
 
 -- sixteen flags are read back

@@ -14,7 +14,7 @@ use Rattle.text.specs.Cuts.{Line}
 use Rattle.text.specs.Words.{followers, listed, one-of}
 use Rattle.text.specs.Texts.{choice-line, branch-line}
 use Rattle.text.specs.Questions.{number, last-word, header, states-given, denominator-given, count, row-sum, above-last, closed}
-use Rattle.text_laws.proofs.CompleteStates.{Small}
+use Rattle.text_laws.proofs.States.{Small}
 use Rattle.text_laws.proofs.CompleteFields.{amount-decimal}
 
 -- lines after a header of n states and the denominator d, which leave just s states to come, and room for c choices and b branches

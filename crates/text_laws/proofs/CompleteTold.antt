@@ -11,7 +11,7 @@ use Rattle.text.specs.Contents.{State, Content}
 use Rattle.text.specs.Texts.{branch-line, row-lines, choices-lines, states-lines, content-lines, end-line, Within}
 use Rattle.text.specs.Cuts.{Line}
 use Rattle.text_laws.proofs.Nest.{branch-of, Nested, nest, content-of}
-use Rattle.text_laws.proofs.CompleteStates.{LawfulState, lawful-states, Small, small-rows}
+use Rattle.text_laws.proofs.States.{LawfulState, lawful-states, Small, small-rows}
 use Rattle.text_laws.proofs.CompleteFields.{amount-decimal, labels-read}
 
 -- the rest of an open row, further choices and further states
@@ -19,7 +19,7 @@ abbrev nested : Row → List Row → List State → Nested
 nested r rs ss = record { row = r; rows = rs; states = ss }
 
 -- the line of a branch writes that branch
-branch-told : (b : Branch) → Small b → branch-of (branch-line b) ≡ b
+pub branch-told : (b : Branch) → Small b → branch-of (branch-line b) ≡ b
 branch-told b h = λ i. record { target = amount-decimal (b .target) (h .target) i; weight = amount-decimal (b .weight) (h .weight) i }
 
 -- the lines of a row tell that row

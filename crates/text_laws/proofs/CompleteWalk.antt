@@ -17,7 +17,7 @@ use Rattle.text.specs.Contents.{State, Content, all-choices, all-branches}
 use Rattle.text.specs.Texts.{header-line, state-line, choice-line, branch-line, end-line, row-lines, choices-lines, states-lines, content-lines, Within}
 use Rattle.text.specs.Questions.{number, states-given, denominator-given, count}
 use Rattle.text.specs.Refusals.{lines-refusal}
-use Rattle.text_laws.proofs.CompleteStates.{LawfulState, lawful-states, Small}
+use Rattle.text_laws.proofs.States.{LawfulState, lawful-states, Small}
 use Rattle.text_laws.proofs.CompleteFields.{amount-decimal, lawful-decimal, lawful-text, between-from}
 use Rattle.text_laws.proofs.CompleteFits.{Fits, Passes, passes-more}
 use Rattle.text_laws.proofs.CompletePlaces.{Room, room-more, Open, open-row, open-more, Ready, Ended, ready, row-ended}

@@ -1,4 +1,5 @@
 pub mod Nest
+pub mod States
 pub mod SoundAsks
 pub mod SoundFields
 pub mod SoundCuts
@@ -10,6 +11,5 @@ pub mod CompleteCuts
 pub mod CompleteFields
 pub mod CompleteFits
 pub mod CompletePlaces
-pub mod CompleteStates
 pub mod CompleteTold
 pub mod CompleteWalk

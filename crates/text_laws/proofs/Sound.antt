@@ -1,59 +1,28 @@
 -- A text that is not refused describes the content that its lines tell.
 use mathlib.Core.Path.{_≡_, refl, sym, ap, ap₂, subst, _∙_}
-use mathlib.Core.Logic.{⊎-elim}
 use mathlib.Core.Bool.{true, false}
 use mathlib.Core.List.{List, [], _∷_, _++_}
-use Prim.Native.Nat.{ℕ, zero, suc, _+_, _-_, _≤_, _<_}
+use Prim.Native.Nat.{ℕ, _+_, _-_, _≤_}
 use native.Mathlib.Omega.{arith}
 use lib.Dec.{eqb, leb, lit<}
-use lib.ListN.{length, getD, length-append}
+use lib.ListN.{length, getD}
 use Rattle.std.specs.declared.option.Option.the-variants.{Some, None}
-use Rattle.std.proofs.shelf.Tests.{both-ways, eqb-true, leb-true, cases-lt}
-use Rattle.std.proofs.shelf.Lists.{getD-past}
-use Rattle.model.specs.Mdp.{LawfulRow, Each, Lawful}
+use Rattle.std.proofs.shelf.Tests.{both-ways, eqb-true, leb-true}
+use Rattle.model.specs.Mdp.{Each, Lawful}
 use Rattle.text.specs.declared.word.Word.{Word}
 use Rattle.text.specs.declared.word.Word.the-variants as word
 use Rattle.text.specs.Cuts.{Line, lines, spelled}
 use Rattle.text.specs.Words.{listed}
-use Rattle.text.specs.Contents.{State, Content, no-state, model-of, all-choices, all-branches}
+use Rattle.text.specs.Contents.{Content, model-of, all-choices, all-branches}
 use Rattle.text.specs.Texts.{end-line, row-lines, choices-lines, states-lines, content-lines, text-of, header-line, Describes}
 use Rattle.text.specs.Questions.{word, number}
 use Rattle.text.specs.Refusals.{lines-refusal, refusal}
 use Rattle.text_laws.proofs.Nest.{Nested, nest-line, nest, content-of}
-use Rattle.text_laws.proofs.CompleteStates.{LawfulState}
+use Rattle.text_laws.proofs.States.{LawfulState, lawful-content}
 use Rattle.text_laws.proofs.SoundAsks.{some-none, ask-next-none, or-next-none, passes}
 use Rattle.text_laws.proofs.SoundCuts.{spelled-lines}
 use Rattle.text_laws.proofs.SoundLines.{some-word, IsHeader, is-header}
 use Rattle.text_laws.proofs.SoundRest.{Rest, count-more, rest}
-
--- what holds of each element holds of one
-each-at : {A : Type 0} (P : A → Type 0) (xs : List A) (i : ℕ) (d : A) → Each P xs → i < length xs → P (getD xs i d)
-each-at P [] i d h l = absurd (omega arith)
-each-at P (x ∷ xs) zero d h l = h .0
-each-at P (x ∷ xs) (suc i) d h l = each-at P xs i d (h .1) (omega arith)
-
--- a state has no more choices than all states together
-choices-of-one : (ss : List State) (s : ℕ) → length (getD ss s no-state .choices) ≤ length (all-choices ss)
-choices-of-one [] s = omega arith
-choices-of-one (t ∷ ss) zero = omega (arith, length-append (t .choices) (all-choices ss))
-choices-of-one (t ∷ ss) (suc s) = omega (arith, choices-of-one ss s, length-append (t .choices) (all-choices ss))
-
--- a content of lawful states, with all numbers in range, is that of a lawful model
-lawful-content : (c : Content) → (1 ≤ length (c .states)) × (length (c .states) ≤ 512) → (1 ≤ c .denominator) × (c .denominator ≤ 1000000) → length (all-choices (c .states)) ≤ 2048 → Each (LawfulState (length (c .states)) (c .denominator)) (c .states) → Lawful (model-of c)
-lawful-content c n d few each =
-    let past : (s : ℕ) → length (c .states) ≤ s → getD (c .states) s no-state ≡ no-state = λ s h. getD-past (c .states) s no-state h in
-    record {
-      some-state = n .0;
-      few-states = n .1;
-      some-unit = d .0;
-      few-units = d .1;
-      some-choice = λ s h. each-at (LawfulState _ _) (c .states) s no-state each h .some-choice;
-      few-choices = λ s. omega (arith, choices-of-one (c .states) s, few);
-      rows = λ s. ⊎-elim (λ h. each-at (LawfulState _ _) (c .states) s no-state each h .rows) (λ h. subst (λ t. Each (LawfulRow (length (c .states)) (c .denominator)) (t .choices)) (sym (past s h)) tt) (cases-lt s (length (c .states)));
-      sixteen-letters = λ s. ⊎-elim (λ h. each-at (LawfulState _ _) (c .states) s no-state each h .labels) (λ h. ap (λ t. length (t .labels)) (past s h)) (cases-lt s (length (c .states)));
-      none-past = λ s h. ap (λ t. t .choices) (past s h);
-      no-labels-past = λ s h. ap (λ t. t .labels) (past s h);
-    }
 
 -- what is said of lines that tell a content: they are its lines, and it is within the limits
 abbrev pub Told : List Line → Content → Type 0

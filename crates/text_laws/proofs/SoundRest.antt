@@ -19,7 +19,7 @@ use Rattle.text.specs.Texts.{end-line, row-lines, choices-lines, states-lines}
 use Rattle.text.specs.Questions.{word, number, states-given, denominator-given, count, row-sum, closed}
 use Rattle.text.specs.Refusals.{lines-refusal}
 use Rattle.text_laws.proofs.Nest.{Nested, nest-line, nest, branch-of}
-use Rattle.text_laws.proofs.CompleteStates.{LawfulState}
+use Rattle.text_laws.proofs.States.{LawfulState}
 use Rattle.text_laws.proofs.SoundAsks.{Passes, ask-none, passes}
 use Rattle.text_laws.proofs.SoundFields.{length-flags}
 use Rattle.text_laws.proofs.SoundLines.{some-word, on-true, lowest, is-state, is-choice, is-branch, is-end}

@@ -10,7 +10,7 @@ use Rattle.text.specs.Texts.{header-line, states-lines, text-of}
 use Rattle.flat.specs.declared.flat.Flat.{Flat}
 use Rattle.tables.specs.declared.tables.Tables.{Tables}
 use Rattle.flat.specs.Flats.{content}
-use Rattle.tables.specs.KeepsLaws.{keeps-parts}
+use Rattle.tables.specs.KeepsLaws.{keeps-within}
 use Rattle.tables.specs.Writes.{Put, line-text}
 use Rattle.tables.proofs.Spans.{states-count}
 use Rattle.tables.proofs.Writes.{Left, left-all, left-room, left-more, left-last}
@@ -26,7 +26,7 @@ foot = 101 ∷ 110 ∷ 100 ∷ 10 ∷ []
 
 -- the text is short
 short : (t : Tables) → 0 + length (text-of (content (t .kept))) ≤ 65536
-short t = let h = keeps-parts (content (t .kept)) (t .within) .short in omega arith
+short t = let h = keeps-within (content (t .kept)) (t .within) .short in omega arith
 
 module _ (f : Flat) (n : ℕ) (e : n ≡ length (vec-items (f .labels))) where
   -- the header, for n states

@@ -1,12 +1,15 @@
 -- What the limits say of each state of a content, and of each branch.
-use mathlib.Core.Path.{_≡_}
+use mathlib.Core.Path.{_≡_, sym, ap, subst}
+use mathlib.Core.Logic.{⊎-elim}
 use mathlib.Core.List.{List, [], _∷_, _++_}
-use Prim.Native.Nat.{ℕ, suc, _+_, _^_, _≤_, _<_}
+use Prim.Native.Nat.{ℕ, zero, suc, _+_, _^_, _≤_, _<_}
 use native.Mathlib.Omega.{arith}
-use lib.ListN.{length, getD}
+use lib.ListN.{length, getD, length-append}
+use Rattle.std.proofs.shelf.Lists.{getD-past}
+use Rattle.std.proofs.shelf.Tests.{cases-lt}
 use Rattle.model.specs.declared.branch.Branch.{Branch}
 use Rattle.model.specs.Mdp.{Row, Each, LawfulRow, Lawful, Ascends, total}
-use Rattle.text.specs.Contents.{State, Content, no-state, model-of}
+use Rattle.text.specs.Contents.{State, Content, no-state, model-of, all-choices}
 
 -- what holds at each place holds of each element
 each-from-getD : {A : Type 0} (P : A → Type 0) (xs : List A) (d : A) → ((i : ℕ) → i < length xs → P (getD xs i d)) → Each P xs
@@ -28,6 +31,35 @@ pub record LawfulState (n d : ℕ) (s : State) : Type 0 where
   pub labels : length (s .labels) ≡ 16
   pub some-choice : 1 ≤ length (s .choices)
   pub rows : Each (LawfulRow n d) (s .choices)
+
+-- what holds of each element holds at each place
+each-at : {A : Type 0} (P : A → Type 0) (xs : List A) (i : ℕ) (d : A) → Each P xs → i < length xs → P (getD xs i d)
+each-at P [] i d h l = absurd (omega arith)
+each-at P (x ∷ xs) zero d h l = h .0
+each-at P (x ∷ xs) (suc i) d h l = each-at P xs i d (h .1) (omega arith)
+
+-- a state has no more choices than all states together
+choices-of-one : (ss : List State) (s : ℕ) → length (getD ss s no-state .choices) ≤ length (all-choices ss)
+choices-of-one [] s = omega arith
+choices-of-one (t ∷ ss) zero = omega (arith, length-append (t .choices) (all-choices ss))
+choices-of-one (t ∷ ss) (suc s) = omega (arith, choices-of-one ss s, length-append (t .choices) (all-choices ss))
+
+-- a content of lawful states, with all numbers in range, is that of a lawful model
+pub lawful-content : (c : Content) → (1 ≤ length (c .states)) × (length (c .states) ≤ 512) → (1 ≤ c .denominator) × (c .denominator ≤ 1000000) → length (all-choices (c .states)) ≤ 2048 → Each (LawfulState (length (c .states)) (c .denominator)) (c .states) → Lawful (model-of c)
+lawful-content c n d few each =
+    let past : (s : ℕ) → length (c .states) ≤ s → getD (c .states) s no-state ≡ no-state = λ s h. getD-past (c .states) s no-state h in
+    record {
+      some-state = n .0;
+      few-states = n .1;
+      some-unit = d .0;
+      few-units = d .1;
+      some-choice = λ s h. each-at (LawfulState _ _) (c .states) s no-state each h .some-choice;
+      few-choices = λ s. omega (arith, choices-of-one (c .states) s, few);
+      rows = λ s. ⊎-elim (λ h. each-at (LawfulState _ _) (c .states) s no-state each h .rows) (λ h. subst (λ t. Each (LawfulRow (length (c .states)) (c .denominator)) (t .choices)) (sym (past s h)) tt) (cases-lt s (length (c .states)));
+      sixteen-letters = λ s. ⊎-elim (λ h. each-at (LawfulState _ _) (c .states) s no-state each h .labels) (λ h. ap (λ t. length (t .labels)) (past s h)) (cases-lt s (length (c .states)));
+      none-past = λ s h. ap (λ t. t .choices) (past s h);
+      no-labels-past = λ s h. ap (λ t. t .labels) (past s h);
+    }
 
 -- each state of a lawful content is lawful
 pub lawful-states : (c : Content) → Lawful (model-of c) → Each (LawfulState (length (c .states)) (c .denominator)) (c .states)
