@@ -30,7 +30,7 @@ use Rattle.flat.specs.declared.flat.Flat.{Flat}
 use Rattle.flat.specs.declared.progress.Progress.{Progress}
 use Rattle.flat.specs.declared.progress.Record.{Record}
 use Rattle.flat.specs.declared.progress.Record.the-variants as record-of
-use Rattle.flat.specs.Readings.{Sane, Follows, Admits, Says, LineRead, Put, further, numbered-result, all-there}
+use Rattle.flat.specs.Readings.{Sane, Follows, Admits, Says, LineRead, Recorded, further, numbered-result, all-there}
 
 -- the word of what a line says
 abbrev pub kind : Record → Word
@@ -103,7 +103,7 @@ none-open : (bs cs : Row) → cs ≡ bs → total (drop (length bs) cs) ≡ 0
 none-open bs cs e = ap (λ r. total (drop (length bs) r)) e ∙ ap total (drop-all (length bs) bs (omega arith))
 
 -- how each kind of line goes on
-grows : (line : Line) (p : Progress) (f g : Flat) (r : Record) → Sane p f → Says line r → Put r f g → Grows (kind r) line p (further p (length (vec-items (f .branches))) r) f g
+grows : (line : Line) (p : Progress) (f g : Flat) (r : Record) → Sane p f → Says line r → Recorded r f g → Grows (kind r) line p (further p (length (vec-items (f .branches))) r) f g
 grows line p f g (record-of.Header states denominator) sane s put = record { last = refl; labels = ap length (put .labels); offsets = ap length (put .offsets); branches = ap length (put .branches); row = none-open _ _ (put .branches); target = λ t. refl }
 grows line p f g (record-of.State labels) sane s put = record { last = refl; labels = one-longer _ _ labels (put .labels); offsets = ap length (put .offsets); branches = ap length (put .branches); row = none-open _ _ (put .branches); target = λ t. refl }
 grows line p f g record-of.Choice sane s put = record { last = refl; labels = ap length (put .labels); offsets = one-longer _ _ _ (put .offsets); branches = ap length (put .branches); row = none-open _ _ (put .branches); target = λ t. refl }
@@ -121,7 +121,7 @@ grows line p f g (record-of.Branch branch) sane s put = record {
 grows line p f g record-of.End sane s put = record { last = refl; labels = ap length (put .labels); offsets = ap length (put .offsets); branches = ap length (put .branches); row = none-open _ _ (put .branches); target = λ t. refl }
 
 -- what the loader knows after a line that may stand here, and what it has put into the arrays
-pub follows-more : (line : Line) (before : List Line) (p : Progress) (f g : Flat) (r : Record) → Sane p f → Follows p f before → word-fits before line ≡ true → Says line r → Put r f g → Follows (further p (length (vec-items (f .branches))) r) g (line ∷ before)
+pub follows-more : (line : Line) (before : List Line) (p : Progress) (f g : Flat) (r : Record) → Sane p f → Follows p f before → word-fits before line ≡ true → Says line r → Recorded r f g → Follows (further p (length (vec-items (f .branches))) r) g (line ∷ before)
 follows-more line before p f g r sane k fits s put =
     go-on (kind r) line before p _ f g k (says-word line r s) (grows line p f g r sane s put) (states r s) (units r s)
   where
@@ -146,7 +146,7 @@ follows-more line before p f g r sane k fits s put =
     units record-of.End s = k .denominator ∙ ap (number 2) (sym (first record-of.End s refl))
 
 -- the arrays stay within the limits, with what they had room for
-pub sane-more : (p : Progress) (f g : Flat) (r : Record) → Sane p f → Admits p f r → Put r f g → Sane (further p (length (vec-items (f .branches))) r) g
+pub sane-more : (p : Progress) (f g : Flat) (r : Record) → Sane p f → Admits p f r → Recorded r f g → Sane (further p (length (vec-items (f .branches))) r) g
 sane-more p f g (record-of.Header states denominator) k a put = omega (arith, k, a, ap length (put .labels), ap length (put .starts), ap length (put .offsets), ap length (put .branches))
 sane-more p f g (record-of.State labels) k a put = omega (arith, k, a, one-longer _ _ labels (put .labels), one-longer _ _ _ (put .starts), ap length (put .offsets), ap length (put .branches))
 sane-more p f g record-of.Choice k a put = omega (arith, k, a, ap length (put .labels), ap length (put .starts), one-longer _ _ _ (put .offsets), ap length (put .branches))

@@ -21,7 +21,7 @@ use Rattle.flat.specs.declared.flat.Flat.{Flat}
 use Rattle.flat.specs.declared.progress.Record.{Record}
 use Rattle.flat.specs.declared.progress.Record.the-variants as record-of
 use Rattle.flat.specs.Flats.{letters}
-use Rattle.flat.specs.Readings.{Says, Put}
+use Rattle.flat.specs.Readings.{Says, Recorded}
 use Rattle.flat.proofs.Told.{told-labels, told-starts, told-offsets, told-branches}
 use Rattle.flat.proofs.Following.{kind, says-word}
 
@@ -65,7 +65,7 @@ module _ (line : Line) (ls : List Line) (f g : Flat) where
   }
 
   -- with a line that is put into the arrays, what they have and what is left to tell stays the same
-  pub tells-on : (r : Record) → Says line r → Put r f g → Keeps-telling f (line ∷ ls) g ls
+  pub tells-on : (r : Record) → Says line r → Recorded r f g → Keeps-telling f (line ∷ ls) g ls
   tells-on (record-of.Header n d) s put =
       let e = s .0 in
       tells-none (put .labels) (put .starts) (put .offsets) (put .branches) (labels-by line ls word.Mdp e) (starts-by line ls word.Mdp e) (offsets-by line ls word.Mdp e) (branches-by line ls word.Mdp e)

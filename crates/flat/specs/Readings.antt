@@ -91,12 +91,12 @@ pub record Same (f g : Flat) : Type 0 where
   pub branches : vec-items (g .branches) ≡ vec-items (f .branches)
 
 -- what a line says is put into the arrays
-abbrev pub Put : Record → Flat → Flat → Type 0
-Put (record-of.Header states denominator) f g = Same f g
-Put (record-of.State labels) f g = Labelled labels f g
-Put record-of.Choice f g = Opened f g
-Put (record-of.Branch branch) f g = Branched branch f g
-Put record-of.End f g = Same f g
+abbrev pub Recorded : Record → Flat → Flat → Type 0
+Recorded (record-of.Header states denominator) f g = Same f g
+Recorded (record-of.State labels) f g = Labelled labels f g
+Recorded record-of.Choice f g = Opened f g
+Recorded (record-of.Branch branch) f g = Branched branch f g
+Recorded record-of.End f g = Same f g
 
 -- how far the text is read after a line that says this, where the arrays have so many branches
 abbrev pub further : Progress → ℕ → Record → Progress
@@ -110,7 +110,7 @@ further p n record-of.End = record { last = Some word.End; states = p .states; d
 pub record Stepped (p : Progress) (f : Flat) (line : Line) (q : Progress) (g : Flat) : Type 0 where
   pub said : Record
   pub says : Says line said
-  pub put : Put said f g
+  pub put : Recorded said f g
   pub next : q ≡ further p (length (vec-items (f .branches))) said
 
 -- line number n is not refused, and has been put into the arrays; or it is refused with this fault

@@ -4,7 +4,7 @@ ghost use lib.ListN.{length};
 ghost use Rattle.std.specs.Of.Vec.{vec-items};
 ghost use Rattle.std.specs.Vec.{made};
 ghost use Rattle.text.specs.Cuts.{Line, fields};
-ghost use Rattle.flat.specs.Readings.{Sane, Follows, Admits, Put, further, numbered-result, all-there, StepRead};
+ghost use Rattle.flat.specs.Readings.{Sane, Follows, Admits, Recorded, further, numbered-result, all-there, StepRead};
 use crate::flat::Flat;
 use crate::line::read_line;
 use crate::progress::Progress;
@@ -20,7 +20,7 @@ fn put_record(progress: Progress, draft: &mut Flat, record: Record) -> Progress
     requires sane { ⌜ Sane progress (now draft) ⌝ }
     requires admitted { ⌜ Admits progress (now draft) «record» ⌝ }
     ensures next { λ r. ⌜ r ≡ further progress (length (vec-items (now (draft .entry) .branches))) «record» ⌝ }
-    ensures arrays { λ _. ⌜ Put «record» (now (draft .entry)) (now (draft .exit)) ⌝ }
+    ensures arrays { λ _. ⌜ Recorded «record» (now (draft .entry)) (now (draft .exit)) ⌝ }
 {
     let first = draft.branches.len();
     match record {
