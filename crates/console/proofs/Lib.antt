@@ -4,3 +4,4 @@ pub mod Drawing
 pub mod Laying
 pub mod Texts
 pub mod Counting
+pub mod Returning

@@ -1,5 +1,6 @@
 // The command line as functions on values: text in, text out.
 // It may use the crates model, text, tables, ladder and layers.
+pub mod answer;
 pub mod caret;
 pub mod command;
 pub mod counts;
