@@ -55,7 +55,7 @@ after-word NoCommand = codes "; kavzhubo help lists the commands\n"
 after-word NoSuchCommand = codes "; kavzhubo help lists the commands\n"
 after-word NoModel = codes "\n"
 after-word TooMany = codes "; kavzhubo help says what may follow it\n"
-after-word NoLadder = codes "; write ladder:RUNGS:DENOMINATOR:WEIGHT with three numbers, as ladder:2:4:3\n"
+after-word NoLadder = codes "; write ladder:RUNGS:DENOMINATOR:WEIGHT with three numbers of one to seven digits, as ladder:2:4:3\n"
 
 -- what is said of a wrong command line, given its words
 abbrev pub mistake-text : Mistake → List (List ℕ) → List ℕ

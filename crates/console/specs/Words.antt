@@ -15,6 +15,9 @@ use Rattle.text.specs.Faults.{file-fault-number, fault-line, fault-field}
 use Rattle.ladder.specs.declared.fault.LadderFault.{LadderFault}
 use Rattle.ladder.specs.declared.fault.LadderFault.the-variants.{Rungs, Denominator, Weight}
 use Rattle.ladder.specs.Refusals.{fault-number}
+use Rattle.layers.specs.declared.fault.HoldFault.{HoldFault}
+use Rattle.layers.specs.declared.fault.HoldFault.the-variants.{Held}
+use Rattle.layers.specs.HoldAnswers as hold
 
 -- the words on a field's fault
 abbrev pub field-words : FieldFault → List ℕ
@@ -23,7 +26,7 @@ field-words (Labels field length) = codes "these are no labels; write letters fr
 
 -- the words on a line's fault
 abbrev pub line-words : LineFault → List ℕ
-line-words Word = codes "this word may not stand here; mdp comes first, then for each state s, then for each of its choices c and its b lines, and end last"
+line-words Word = codes "this word may not stand here; mdp comes first, then for each state s, then for each of its choices c and its b lines, and end last; a tab, no blank, ends the word"
 line-words Fields = codes "this line has too few or too many fields; mdp and b have two fields after the word, s has one, c and end have none, and one tab parts two fields"
 line-words (Field fault) = field-words fault
 line-words Range = codes "a number is out of range; there are 1 to 512 states, the denominator is 1 to 1000000, a target is below the number of states, a weight is 1 to the denominator"
@@ -47,6 +50,10 @@ ladder-words Rungs = codes "a ladder has 1 to 511 rungs; change the first number
 ladder-words Denominator = codes "the denominator of a ladder is 1 to 1000000; change the second number of ladder:RUNGS:DENOMINATOR:WEIGHT"
 ladder-words Weight = codes "the weight of a ladder is 1 to its denominator; change the third number of ladder:RUNGS:DENOMINATOR:WEIGHT"
 
+-- the words on a hold's fault
+abbrev pub hold-words : HoldFault → List ℕ
+hold-words Held = codes "there is no such state to hold; states are numbered from 0, and the mdp line says how many there are"
+
 -- the field and the length, of a fault that has them
 abbrev pub field-text : Option (ℕ × ℕ) → List ℕ
 field-text None = []
@@ -60,3 +67,7 @@ file-refusal f =
 -- the first line of a ladder's refusal
 abbrev pub ladder-refusal : LadderFault → List ℕ
 ladder-refusal f = codes "refused " ++ (decimal (fault-number f) ++ (codes ": " ++ ladder-words f))
+
+-- the first line of a hold's refusal
+abbrev pub hold-refusal : HoldFault → List ℕ
+hold-refusal f = codes "refused " ++ (decimal (hold.fault-number f) ++ (codes ": " ++ hold-words f))

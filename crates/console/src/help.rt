@@ -71,7 +71,7 @@ fn after_word(mistake: Mistake) -> &'static str
         Mistake::NoSuchCommand => "; kavzhubo help lists the commands\n",
         Mistake::NoModel => "\n",
         Mistake::TooMany => "; kavzhubo help says what may follow it\n",
-        Mistake::NoLadder => "; write ladder:RUNGS:DENOMINATOR:WEIGHT with three numbers, as ladder:2:4:3\n",
+        Mistake::NoLadder => "; write ladder:RUNGS:DENOMINATOR:WEIGHT with three numbers of one to seven digits, as ladder:2:4:3\n",
     }
 }
 

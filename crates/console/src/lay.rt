@@ -1,6 +1,5 @@
 ghost use mathlib.Core.Path.{_≡_};
-ghost use mathlib.Core.List.{_++_};
-ghost use Rattle.console.specs.Layouts.{laid-row, laid-choices, laid-state, laid-states, state-of, content-of};
+ghost use Rattle.console.specs.Layouts.{laid-choice, laid-state, laid-states, state-of, content-of};
 ghost use Rattle.model.specs.Mdp.{row};
 ghost use Rattle.std.specs.Of.String.{string-bytes};
 ghost use Rattle.std.specs.Vec.{made};
@@ -9,56 +8,40 @@ use model::source::Source;
 use std::alloc::AllocError;
 use std::alloc::Global;
 
-// Adds the branches of a choice.
-fn add_row<S: Source, L: Style>(
+// One choice of a source, laid out.
+fn lay_choice<S: Source, L: Style>(
     heap: Global,
-    out: &mut String,
     style: &L,
     source: &S,
     state: usize,
     choice: usize,
-) -> Result<(), AllocError>
-    ensures { λ r. ⌜ made r (λ _. string-bytes (now (out .exit)) ≡ string-bytes (now (out .entry)) ++ laid-row (L·Style .layout (now (style .entry))) (row (S·Source .model (now (source .entry))) state choice)) ⌝ }
+) -> Result<String, AllocError>
+    ensures { λ r. ⌜ made r (λ s. string-bytes s ≡ laid-choice (L·Style .layout (now (style .entry))) choice (row (S·Source .model (now (source .entry))) state choice)) ⌝ }
 {
+    let mut out = style.choice(heap, choice)?;
     for index in 0..source.branches(state, choice) {
-        let branch = style.branch(heap, index, source.branch(state, choice, index))?;
-        out.push_str(branch.as_str())?;
+        let text = style.branch(heap, index, source.branch(state, choice, index))?;
+        out.push_str(text.as_str())?;
     }
-    Ok(())
+    Ok(out)
 }
 
-// Adds the choices of a state.
-fn add_choices<S: Source, L: Style>(
+// One state of a source, laid out.
+pub fn lay_state<S: Source, L: Style>(
     heap: Global,
-    out: &mut String,
     style: &L,
     source: &S,
     state: usize,
-) -> Result<(), AllocError>
-    ensures { λ r. ⌜ made r (λ _. string-bytes (now (out .exit)) ≡ string-bytes (now (out .entry)) ++ laid-choices (L·Style .layout (now (style .entry))) (S·Source .model (now (source .entry)) .choices state)) ⌝ }
+) -> Result<String, AllocError>
+    ensures { λ r. ⌜ made r (λ s. string-bytes s ≡ laid-state (L·Style .layout (now (style .entry))) state (state-of (S·Source .model (now (source .entry))) state)) ⌝ }
 {
+    let mut out = style.state(heap, state, &source.labels(state))?;
     for choice in 0..source.choices(state) {
-        let head = style.choice(heap, choice)?;
-        out.push_str(head.as_str())?;
-        add_row(heap, out, style, source, state, choice)?;
+        let text = lay_choice(heap, style, source, state, choice)?;
+        out.push_str(text.as_str())?;
     }
-    Ok(())
-}
-
-// Adds a state.
-fn add_state<S: Source, L: Style>(
-    heap: Global,
-    out: &mut String,
-    style: &L,
-    source: &S,
-    state: usize,
-) -> Result<(), AllocError>
-    ensures { λ r. ⌜ made r (λ _. string-bytes (now (out .exit)) ≡ string-bytes (now (out .entry)) ++ laid-state (L·Style .layout (now (style .entry))) state (state-of (S·Source .model (now (source .entry))) state)) ⌝ }
-{
-    let head = style.state(heap, state, &source.labels(state))?;
-    out.push_str(head.as_str())?;
-    add_choices(heap, out, style, source, state)?;
-    out.push_str(style.close())
+    out.push_str(style.close())?;
+    Ok(out)
 }
 
 // The states of a source, laid out.
@@ -71,7 +54,8 @@ pub fn lay_states<S: Source, L: Style>(
 {
     let mut out = String::new(heap);
     for state in 0..source.states() {
-        add_state(heap, &mut out, style, source, state)?;
+        let text = lay_state(heap, style, source, state)?;
+        out.push_str(text.as_str())?;
     }
     Ok(out)
 }

@@ -1,8 +1,9 @@
 ghost use mathlib.Core.Path.{_≡_};
-ghost use Rattle.console.specs.Words.{field-words, line-words, file-words, ladder-words, field-text, file-refusal, ladder-refusal};
+ghost use Rattle.console.specs.Words.{field-words, line-words, file-words, ladder-words, hold-words, field-text, file-refusal, ladder-refusal, hold-refusal};
 ghost use Rattle.std.specs.Of.String.{string-bytes};
 ghost use Rattle.std.specs.Vec.{made};
 use ladder::fault::LadderFault;
+use layers::fault::HoldFault;
 use std::alloc::AllocError;
 use std::alloc::Global;
 use text::fault::FieldFault;
@@ -28,7 +29,7 @@ fn line_words(fault: &LineFault) -> &'static str
 {
     match fault {
         LineFault::Word => {
-            "this word may not stand here; mdp comes first, then for each state s, then for each of its choices c and its b lines, and end last"
+            "this word may not stand here; mdp comes first, then for each state s, then for each of its choices c and its b lines, and end last; a tab, no blank, ends the word"
         }
         LineFault::Fields => {
             "this line has too few or too many fields; mdp and b have two fields after the word, s has one, c and end have none, and one tab parts two fields"
@@ -54,7 +55,7 @@ fn line_words(fault: &LineFault) -> &'static str
 }
 
 // The words on a text's fault.
-pub fn file_words(fault: &FileFault) -> &'static str
+fn file_words(fault: &FileFault) -> &'static str
     ensures { λ r. ⌜ now r ≡ file-words (now (fault .entry)) ⌝ }
 {
     match fault {
@@ -69,7 +70,7 @@ pub fn file_words(fault: &FileFault) -> &'static str
 }
 
 // The words on a ladder's fault.
-pub fn ladder_words(fault: &LadderFault) -> &'static str
+fn ladder_words(fault: &LadderFault) -> &'static str
     ensures { λ r. ⌜ now r ≡ ladder-words (now (fault .entry)) ⌝ }
 {
     match fault {
@@ -81,6 +82,17 @@ pub fn ladder_words(fault: &LadderFault) -> &'static str
         }
         LadderFault::Weight => {
             "the weight of a ladder is 1 to its denominator; change the third number of ladder:RUNGS:DENOMINATOR:WEIGHT"
+        }
+    }
+}
+
+// The words on a hold's fault.
+fn hold_words(fault: &HoldFault) -> &'static str
+    ensures { λ r. ⌜ now r ≡ hold-words (now (fault .entry)) ⌝ }
+{
+    match fault {
+        HoldFault::Held => {
+            "there is no such state to hold; states are numbered from 0, and the mdp line says how many there are"
         }
     }
 }
@@ -112,5 +124,14 @@ pub fn ladder_refusal(heap: Global, fault: &LadderFault) -> Result<String, Alloc
 {
     let number = fault.number();
     let words = ladder_words(fault);
+    format!(heap, "refused {number}: {words}")
+}
+
+// The first line of a hold's refusal.
+pub fn hold_refusal(heap: Global, fault: &HoldFault) -> Result<String, AllocError>
+    ensures { λ r. ⌜ made r (λ s. string-bytes s ≡ hold-refusal (now (fault .entry))) ⌝ }
+{
+    let number = fault.number();
+    let words = hold_words(fault);
     format!(heap, "refused {number}: {words}")
 }

@@ -1,7 +1,7 @@
 use borrow.Author.Needs.{needs}
 use native.Mathlib.Omega.{arith}
 use Rattle.console.proofs.Laying.{left-more, left-none}
-use Rattle.console.proofs.lay.add_row.Needs as need
+use Rattle.console.proofs.lay.lay_choice.Needs as need
 
 pub loop-index-again : need.loop-index-again
 loop-index-again g c = search (needs, left-more)
