@@ -1,0 +1,132 @@
+// A tour: every command, each kind of refusal and of wrong command line, and a held state, through the same library as
+// the program. It may use the console crate and those below it.
+use console::answer::path;
+use console::answer::reply;
+use console::lay::lay_state;
+use console::listing::totals;
+use console::reply::Reply;
+use console::style::Listing;
+use console::style::ListingStyle;
+use console::words::hold_refusal;
+use layers::hold::Hold;
+use layers::hold::HoldSource;
+use model::refs::RefSource;
+use model::source::Source;
+use std::alloc::AllocError;
+use std::alloc::Global;
+use std::fs;
+use std::io;
+use std::io::Write;
+use tables::source::TablesSource;
+use tables::tables::Tables;
+
+// The words of a command line.
+fn words(heap: Global, line: &str) -> Result<Vec<String>, AllocError> {
+    let mut words = Vec::new(heap);
+    for word in line.split_whitespace() {
+        words.push(String::from_str(heap, word)?)?;
+    }
+    Ok(words)
+}
+
+// Plays a command line: prints it, what the program answers to it, and the exit status.
+fn play(rt: &LibcRuntime, line: &str) -> io::Result<()> {
+    let args = words(rt.alloc(), line)?;
+    let file = match path(args.as_slice()) {
+        Some(path) => fs::read(rt, path).ok(),
+        None => None,
+    };
+    println!(rt, "\n$ kavzhubo {line}")?;
+    match reply(rt.alloc(), args.as_slice(), &file)? {
+        Reply::Printed(text) => {
+            rt.stdout().write_all(text.as_slice())?;
+            rt.println("(exit status 0)")
+        }
+        Reply::Refused(text) => {
+            rt.print(text.as_str())?;
+            rt.println("(exit status 1)")
+        }
+        Reply::Wrong(text) => {
+            rt.print(text.as_str())?;
+            rt.println("(on standard error, exit status 1)")
+        }
+    }
+}
+
+// Plays several command lines.
+fn play_all(rt: &LibcRuntime, lines: &[&str]) -> io::Result<()> {
+    for line in lines {
+        play(rt, line)?;
+    }
+    Ok(())
+}
+
+// Prints a state of a source as `show` does.
+fn print_state<S: Source>(rt: &LibcRuntime, source: &S, state: usize) -> io::Result<()> {
+    rt.print(lay_state(rt.alloc(), &Listing, source, state)?.as_str())
+}
+
+// Holds a state of a source, and prints it before and after.
+fn print_held<S: Source>(rt: &LibcRuntime, source: &S, state: usize) -> io::Result<()> {
+    let mut layer = Hold::over(source);
+    println!(rt, "\nA layer over it, that holds state {state}. Before:")?;
+    print_state(rt, &layer, state)?;
+    match layer.hold(state) {
+        Ok(()) => {
+            rt.println("After:")?;
+            print_state(rt, &layer, state)
+        }
+        Err(fault) => rt.println(hold_refusal(rt.alloc(), &fault)?.as_str()),
+    }
+}
+
+// Loads a file, says what was read, and holds a state that it has and one that it has not.
+fn print_layers(rt: &LibcRuntime, name: &str) -> io::Result<()> {
+    let text = fs::read(rt, name)?;
+    let mut tables = Tables::new(rt.alloc())?;
+    if tables.load(text.as_slice()).is_err() {
+        return println!(rt, "\n{name} is refused.");
+    }
+    let size = totals(&tables, text.len());
+    let states = size.states;
+    let choices = size.choices;
+    let branches = size.branches;
+    println!(rt, "\nLoaded {name}: {states} states, {choices} choices, {branches} branches.")?;
+    print_held(rt, &tables, 3)?;
+    print_held(rt, &tables, states)
+}
+
+// Loads a file and writes it, and says whether the bytes are the same.
+fn print_copy(rt: &LibcRuntime, name: &str) -> io::Result<()> {
+    let text = fs::read(rt, name)?;
+    let mut tables = Tables::new(rt.alloc())?;
+    let mut out = vec![in rt.alloc(); 0u8; 65_536]?;
+    match tables.load_and_write(text.as_slice(), out.as_mut_slice()) {
+        Ok(length) => {
+            out.truncate(length);
+            let verdict = if out.as_slice() == text.as_slice() { "the same" } else { "not the same" };
+            println!(rt, "\nLoaded {name} and wrote it: {length} bytes, {verdict}.")
+        }
+        Err(fault) => {
+            let number = fault.number();
+            println!(rt, "\n{name} is refused with {number}.")
+        }
+    }
+}
+
+fn main(rt: LibcRuntime) -> io::Result<()> {
+    rt.println("A tour of kavzhubo: after each $ stands a command line, and under it the answer.")?;
+    play_all(&rt, &["help", "show relearn.mdp", "write relearn.mdp"])?;
+    print_copy(&rt, "relearn.mdp")?;
+    print_layers(&rt, "relearn.mdp")?;
+    play_all(&rt, &["show ladder:2:4:3", "write ladder:2:4:3", "write ladder:1:1:1"])?;
+    rt.println("\nRefusals of a text, in the order of their numbers.")?;
+    play_all(&rt, &["show unended.mdp", "show word.mdp", "show fields.mdp", "show number.mdp"])?;
+    play_all(&rt, &["write crlf.mdp", "show range.mdp", "show labels.mdp", "show accent.mdp"])?;
+    play_all(&rt, &["show order.mdp", "write sum.mdp", "show states.mdp", "show missing.mdp", "show noend.mdp"])?;
+    rt.println("\nRefusals of a ladder.")?;
+    play_all(&rt, &["show ladder:0:4:3", "show ladder:2:0:3", "write ladder:2:4:5"])?;
+    rt.println("\nWrong command lines.")?;
+    play_all(&rt, &["", "chart relearn.mdp", "show", "show relearn.mdp twice", "show ladder:2:4"])?;
+    play(&rt, "show nowhere.mdp")
+}
