@@ -1,4 +1,3 @@
-use Rattle.tables.specs.Flats.{content}
 use Rattle.console.specs.declared.reply.Form.the-variants.{Listing}
 use Rattle.console.specs.Replies.{answer-of}
 use Rattle.console.proofs.Returning.{accepted-model}
@@ -7,4 +6,4 @@ use Rattle.console.proofs.answer.show_reply.Needs as need
 pub returns-in-Ok : need.returns-in-Ok
 returns-in-Ok c =
     let accepted = c .in-Ok .ensures tt in
-    accepted-model Listing (c .args .text .now) (content (c .load .last .self .kept)) (answer-of (c .in-Continue-reply .reply)) (accepted .passed) (accepted .describes) (c .in-Continue-reply .ensures tt)
+    accepted-model Listing (c .args .text .now) _ (answer-of (c .in-Continue-reply .reply)) (accepted .passed) (accepted .describes) (c .in-Continue-reply .ensures tt)
