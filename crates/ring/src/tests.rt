@@ -11,8 +11,12 @@ use layers::hold::HoldSource;
 use model::branch::Branch;
 use model::branch::BranchDebug;
 use model::branch::BranchPartialEq;
+use model::refs::RefSource;
 use model::source::Source;
 use std::test::*;
+use tables::source::TablesSource;
+use tables::tables::Tables;
+use text::fault::FileFaultDebug;
 
 const NONE: Branch = Branch {
     target: 0,
@@ -73,6 +77,22 @@ fn rows_read_in_bulk() -> Result<(), Fail> {
     check_eq(pile.read_row(2, 0, &mut []), 1)?;
     check_eq(pile.read_row(2, 0, &mut short), 1)?;
     check_eq(short, [to(2, 10)])
+}
+
+#[test]
+fn tables_and_ladder_under_layers(rt: LibcRuntime) -> Result<(), Fail> {
+    let mut tables = Tables::new(rt.alloc())?;
+    nothing_past(&tables)?;
+    tables.load(b"mdp\t2\t3\ns\tb\nc\nb\t0\t2\nb\t1\t1\nc\nb\t1\t3\ns\t-\nc\nb\t1\t3\nend\n")?;
+    nothing_past(&tables)?;
+    let mut pile = Hold::over(Hold::over(&tables));
+    check_eq(pile.branch(0, 1, 0), to(1, 3))?;
+    pile.hold(0)?;
+    check_eq(pile.branch(0, 0, 0), to(0, 3))?;
+    check_eq(pile.branches(0, 1), 0)?;
+    check(pile.labels(0).letters[1])?;
+    nothing_past(&pile)?;
+    nothing_past(&Hold::over(Ladder::new(1, 1, 1)?))
 }
 
 // The number that these three are refused with, or 0.
