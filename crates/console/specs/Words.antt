@@ -52,7 +52,7 @@ ladder-words Weight = codes "the weight of a ladder is 1 to its denominator; cha
 
 -- the words on a hold's fault
 abbrev pub hold-words : HoldFault → List ℕ
-hold-words Held = codes "there is no such state to hold; states are numbered from 0, and the mdp line says how many there are"
+hold-words Held = codes "there is no such state to hold; states are numbered from 0 to one below how many there are"
 
 -- the field and the length, of a fault that has them
 abbrev pub field-text : Option (ℕ × ℕ) → List ℕ

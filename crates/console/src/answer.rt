@@ -53,7 +53,13 @@ fn source_reply<S: Source>(heap: Global, form: Form, source: &S) -> Result<Reply
 }
 
 // The reply on a ladder.
-fn ladder_reply(heap: Global, form: Form, rungs: usize, denominator: u32, weight: u32) -> Result<Reply, AllocError>
+fn ladder_reply(
+    heap: Global,
+    form: Form,
+    rungs: usize,
+    denominator: u32,
+    weight: u32,
+) -> Result<Reply, AllocError>
     ensures { λ r. ⌜ made r (λ a. answer-of a ≡ ladder-answer form rungs denominator weight) ⌝ }
 {
     match Ladder::new(rungs, denominator, weight) {
@@ -113,7 +119,12 @@ fn text_reply(heap: Global, form: Form, text: &[u8]) -> Result<Reply, AllocError
 }
 
 // The reply on a file, given its path and its bytes, if it could be read.
-fn file_reply(heap: Global, form: Form, path: &str, file: &Option<Vec<u8>>) -> Result<Reply, AllocError>
+fn file_reply(
+    heap: Global,
+    form: Form,
+    path: &str,
+    file: &Option<Vec<u8>>,
+) -> Result<Reply, AllocError>
     ensures { λ r. ⌜ made r (λ a. FileAnswer form (now (path .entry)) (mapped vec-items (now (file .entry))) (answer-of a)) ⌝ }
 {
     match file {

@@ -56,7 +56,8 @@ fn before_word(mistake: Mistake) -> &'static str
     match mistake {
         Mistake::NoCommand => "kavzhubo: there is no command",
         Mistake::NoSuchCommand => "kavzhubo: there is no command ",
-        Mistake::NoModel => "kavzhubo: which model? Write its path, or ladder:RUNGS:DENOMINATOR:WEIGHT, after ",
+        Mistake::NoModel =>
+            "kavzhubo: which model? Write its path, or ladder:RUNGS:DENOMINATOR:WEIGHT, after ",
         Mistake::TooMany => "kavzhubo: there are too many words after ",
         Mistake::NoLadder => "kavzhubo: this names no ladder: ",
     }
@@ -71,12 +72,17 @@ fn after_word(mistake: Mistake) -> &'static str
         Mistake::NoSuchCommand => "; kavzhubo help lists the commands\n",
         Mistake::NoModel => "\n",
         Mistake::TooMany => "; kavzhubo help says what may follow it\n",
-        Mistake::NoLadder => "; write ladder:RUNGS:DENOMINATOR:WEIGHT with three numbers of one to seven digits, as ladder:2:4:3\n",
+        Mistake::NoLadder =>
+            "; write ladder:RUNGS:DENOMINATOR:WEIGHT with three numbers of one to seven digits, as ladder:2:4:3\n",
     }
 }
 
 // What is said of a wrong command line.
-pub fn mistake_text(heap: Global, mistake: Mistake, args: &[String]) -> Result<String, AllocError>
+pub(crate) fn mistake_text(
+    heap: Global,
+    mistake: Mistake,
+    args: &[String],
+) -> Result<String, AllocError>
     ensures { λ r. ⌜ made r (λ s. string-bytes s ≡ mistake-text mistake (map string-bytes (now (args .entry)))) ⌝ }
 {
     let before = before_word(mistake);
@@ -86,7 +92,7 @@ pub fn mistake_text(heap: Global, mistake: Mistake, args: &[String]) -> Result<S
 }
 
 // What is said where no file can be read at a path.
-pub fn no_file_text(heap: Global, path: &str) -> Result<String, AllocError>
+pub(crate) fn no_file_text(heap: Global, path: &str) -> Result<String, AllocError>
     ensures { λ r. ⌜ made r (λ s. string-bytes s ≡ no-file-text (now (path .entry))) ⌝ }
 {
     format!(

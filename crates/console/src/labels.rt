@@ -20,7 +20,7 @@ fn letters_text(heap: Global, labels: &Labels) -> Result<String, AllocError>
 }
 
 // A set of labels as a text writes it: its letters, or `-` for none.
-pub fn labels_text(heap: Global, labels: &Labels) -> Result<String, AllocError>
+pub(crate) fn labels_text(heap: Global, labels: &Labels) -> Result<String, AllocError>
     ensures { λ r. ⌜ made r (λ s. string-bytes s ≡ labels-text (now (labels .entry) .letters)) ⌝ }
 {
     let letters = letters_text(heap, labels)?;

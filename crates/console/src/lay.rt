@@ -27,7 +27,7 @@ fn lay_choice<S: Source, L: Style>(
 }
 
 // One state of a source, laid out.
-pub fn lay_state<S: Source, L: Style>(
+pub(crate) fn lay_state<S: Source, L: Style>(
     heap: Global,
     style: &L,
     source: &S,
@@ -45,7 +45,7 @@ pub fn lay_state<S: Source, L: Style>(
 }
 
 // The states of a source, laid out.
-pub fn lay_states<S: Source, L: Style>(
+pub(crate) fn lay_states<S: Source, L: Style>(
     heap: Global,
     style: &L,
     source: &S,

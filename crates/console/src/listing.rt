@@ -1,11 +1,12 @@
 ghost use mathlib.Core.Path.{_≡_};
-ghost use Rattle.console.specs.Layouts.{content-of};
-ghost use Rattle.console.specs.Listings.{framed, totals-of, totals-text, show-text};
+ghost use Rattle.console.specs.Layouts.{content-of, state-of, laid-state};
+ghost use Rattle.console.specs.Listings.{listing, framed, totals-of, totals-text, show-text};
 ghost use Rattle.std.specs.Of.String.{string-bytes};
 ghost use Rattle.std.specs.Vec.{made};
 ghost use Rattle.text.specs.Texts.{text-of};
 use crate::counts::branch_count;
 use crate::counts::choice_count;
+use crate::lay::lay_state;
 use crate::lay::lay_states;
 use crate::style::Listing;
 use crate::style::ListingStyle;
@@ -26,6 +27,13 @@ fn framed(
     ensures { λ r. ⌜ made r (λ s. string-bytes s ≡ framed states denominator (string-bytes (now (lines .entry)))) ⌝ }
 {
     format!(heap, "mdp\t{states}\t{denominator}\n{lines}end\n")
+}
+
+// One state of a source, as `show` lists it.
+pub fn state_text<S: Source>(heap: Global, source: &S, state: usize) -> Result<String, AllocError>
+    ensures { λ r. ⌜ made r (λ s. string-bytes s ≡ laid-state listing state (state-of (S·Source .model (now (source .entry))) state)) ⌝ }
+{
+    lay_state(heap, &Listing, source, state)
 }
 
 // The model text of a source.

@@ -126,7 +126,7 @@ fn by_count(count: usize, verb: Option<Verb>, name: Option<ModelName>) -> Comman
 }
 
 // A word of the command line, from 0; empty where there is none.
-pub fn word_at(args: &[String], index: usize) -> &str
+pub(crate) fn word_at(args: &[String], index: usize) -> &str
     ensures { λ r. ⌜ now r ≡ word-at index (map string-bytes (now (args .entry))) ⌝ }
 {
     if index < args.len() {

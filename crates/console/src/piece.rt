@@ -4,7 +4,7 @@ ghost use Rattle.console.specs.Carets.{piece, pieces};
 use text::cut::piece_length;
 
 // One of the pieces of some bytes that are cut at each `sep`; empty where there is none.
-pub fn piece(bytes: &[u8], sep: u8, index: usize) -> &[u8]
+pub(crate) fn piece(bytes: &[u8], sep: u8, index: usize) -> &[u8]
     ensures { λ r. ⌜ now r ≡ piece sep index (now (bytes .entry)) ⌝ }
 {
     let mut rest = bytes;
@@ -19,7 +19,7 @@ pub fn piece(bytes: &[u8], sep: u8, index: usize) -> &[u8]
 }
 
 // How many pieces there are.
-pub fn piece_count(bytes: &[u8], sep: u8) -> usize
+pub(crate) fn piece_count(bytes: &[u8], sep: u8) -> usize
     ensures { λ r. ⌜ r ≡ length (pieces sep (now (bytes .entry))) ⌝ }
 {
     let mut count = 1;

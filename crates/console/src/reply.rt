@@ -1,6 +1,6 @@
 // In which form a model is printed: as a listing to read, or as model text.
 #[derive(Clone, Copy, PartialEq, Eq, Debug)]
-pub enum Form {
+pub(crate) enum Form {
     Listing,
     Text,
 }

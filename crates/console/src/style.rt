@@ -10,7 +10,7 @@ use std::alloc::AllocError;
 use std::alloc::Global;
 
 // A way to lay a model out as text.
-pub trait Style {
+pub(crate) trait Style {
     // the layout that the style stands for
     ghost layout: { Self → Layout };
 
@@ -33,9 +33,9 @@ pub trait Style {
 
 // The style of model text.
 #[derive(Clone, Copy)]
-pub struct ModelText;
+pub(crate) struct ModelText;
 
-pub impl Style for ModelText as ModelTextStyle {
+pub(crate) impl Style for ModelText as ModelTextStyle {
     ghost layout = { λ _. model-text };
 
     fn state(&self, heap: Global, state: usize, labels: &Labels) -> Result<String, AllocError> {
@@ -67,9 +67,9 @@ fn lead(first: &'static str, later: &'static str, index: usize) -> &'static str
 
 // The style of a listing to read.
 #[derive(Clone, Copy)]
-pub struct Listing;
+pub(crate) struct Listing;
 
-pub impl Style for Listing as ListingStyle {
+pub(crate) impl Style for Listing as ListingStyle {
     ghost layout = { λ _. listing };
 
     fn state(&self, heap: Global, state: usize, labels: &Labels) -> Result<String, AllocError> {

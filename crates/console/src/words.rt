@@ -92,7 +92,7 @@ fn hold_words(fault: &HoldFault) -> &'static str
 {
     match fault {
         HoldFault::Held => {
-            "there is no such state to hold; states are numbered from 0, and the mdp line says how many there are"
+            "there is no such state to hold; states are numbered from 0 to one below how many there are"
         }
     }
 }
@@ -108,7 +108,7 @@ fn field_text(heap: Global, field: Option<(usize, usize)>) -> Result<String, All
 }
 
 // The first line of a text's refusal: its number, its place and its words.
-pub fn file_refusal(heap: Global, fault: &FileFault) -> Result<String, AllocError>
+pub(crate) fn file_refusal(heap: Global, fault: &FileFault) -> Result<String, AllocError>
     ensures { λ r. ⌜ made r (λ s. string-bytes s ≡ file-refusal (now (fault .entry))) ⌝ }
 {
     let number = fault.number();
@@ -119,7 +119,7 @@ pub fn file_refusal(heap: Global, fault: &FileFault) -> Result<String, AllocErro
 }
 
 // The first line of a ladder's refusal.
-pub fn ladder_refusal(heap: Global, fault: &LadderFault) -> Result<String, AllocError>
+pub(crate) fn ladder_refusal(heap: Global, fault: &LadderFault) -> Result<String, AllocError>
     ensures { λ r. ⌜ made r (λ s. string-bytes s ≡ ladder-refusal (now (fault .entry))) ⌝ }
 {
     let number = fault.number();

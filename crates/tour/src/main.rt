@@ -2,11 +2,9 @@
 // the program. It may use the console crate and those below it.
 use console::answer::path;
 use console::answer::reply;
-use console::lay::lay_state;
+use console::listing::state_text;
 use console::listing::totals;
 use console::reply::Reply;
-use console::style::Listing;
-use console::style::ListingStyle;
 use console::words::hold_refusal;
 use layers::hold::Hold;
 use layers::hold::HoldSource;
@@ -20,10 +18,62 @@ use std::io::Write;
 use tables::source::TablesSource;
 use tables::tables::Tables;
 
-// The words of a command line.
+// Command lines that print a file.
+const FILES: [&str; 3] = [
+    "kavzhubo help",
+    "kavzhubo show relearn.mdp",
+    "kavzhubo write relearn.mdp",
+];
+
+// Command lines that print a ladder.
+const LADDERS: [&str; 3] = [
+    "kavzhubo show ladder:2:4:3",
+    "kavzhubo write ladder:2:4:3",
+    "kavzhubo write ladder:1:1:1",
+];
+
+// Command lines whose file is refused.
+const REFUSED: [&str; 14] = [
+    "kavzhubo show unended.mdp",
+    "kavzhubo show word.mdp",
+    "kavzhubo show long.mdp",
+    "kavzhubo show fields.mdp",
+    "kavzhubo show number.mdp",
+    "kavzhubo write crlf.mdp",
+    "kavzhubo show range.mdp",
+    "kavzhubo show labels.mdp",
+    "kavzhubo show accent.mdp",
+    "kavzhubo show order.mdp",
+    "kavzhubo write sum.mdp",
+    "kavzhubo show states.mdp",
+    "kavzhubo show missing.mdp",
+    "kavzhubo show noend.mdp",
+];
+
+// Command lines whose ladder is refused.
+const REFUSED_LADDERS: [&str; 3] = [
+    "kavzhubo show ladder:0:4:3",
+    "kavzhubo show ladder:2:0:3",
+    "kavzhubo write ladder:2:4:5",
+];
+
+// Command lines that are wrong.
+const WRONG: [&str; 9] = [
+    "kavzhubo",
+    "kavzhubo chart relearn.mdp",
+    "kavzhubo show",
+    "kavzhubo show relearn.mdp twice",
+    "kavzhubo show ladder:2:4",
+    "kavzhubo show ladder:2:4:3:1",
+    "kavzhubo write ladder:2:04:3",
+    "kavzhubo write ladder",
+    "kavzhubo show ./ladder:2:4:3",
+];
+
+// The words of a command line, after the program's name.
 fn words(heap: Global, line: &str) -> Result<Vec<String>, AllocError> {
     let mut words = Vec::new(heap);
-    for word in line.split_whitespace() {
+    for word in line.split_whitespace().skip(1) {
         words.push(String::from_str(heap, word)?)?;
     }
     Ok(words)
@@ -36,7 +86,7 @@ fn play(rt: &LibcRuntime, line: &str) -> io::Result<()> {
         Some(path) => fs::read(rt, path).ok(),
         None => None,
     };
-    println!(rt, "\n$ kavzhubo {line}")?;
+    println!(rt, "\n$ {line}")?;
     match reply(rt.alloc(), args.as_slice(), &file)? {
         Reply::Printed(text) => {
             rt.stdout().write_all(text.as_slice())?;
@@ -53,8 +103,9 @@ fn play(rt: &LibcRuntime, line: &str) -> io::Result<()> {
     }
 }
 
-// Plays several command lines.
-fn play_all(rt: &LibcRuntime, lines: &[&str]) -> io::Result<()> {
+// Plays several command lines under a heading.
+fn play_all(rt: &LibcRuntime, heading: &str, lines: &[&str]) -> io::Result<()> {
+    println!(rt, "\n{heading}")?;
     for line in lines {
         play(rt, line)?;
     }
@@ -63,13 +114,16 @@ fn play_all(rt: &LibcRuntime, lines: &[&str]) -> io::Result<()> {
 
 // Prints a state of a source as `show` does.
 fn print_state<S: Source>(rt: &LibcRuntime, source: &S, state: usize) -> io::Result<()> {
-    rt.print(lay_state(rt.alloc(), &Listing, source, state)?.as_str())
+    rt.print(state_text(rt.alloc(), source, state)?.as_str())
 }
 
 // Holds a state of a source, and prints it before and after.
 fn print_held<S: Source>(rt: &LibcRuntime, source: &S, state: usize) -> io::Result<()> {
     let mut layer = Hold::over(source);
-    println!(rt, "\nA layer over it, that holds state {state}. Before:")?;
+    println!(
+        rt,
+        "\nA layer over it, and a call to hold state {state}. Before:"
+    )?;
     print_state(rt, &layer, state)?;
     match layer.hold(state) {
         Ok(()) => {
@@ -91,7 +145,10 @@ fn print_layers(rt: &LibcRuntime, name: &str) -> io::Result<()> {
     let states = size.states;
     let choices = size.choices;
     let branches = size.branches;
-    println!(rt, "\nLoaded {name}: {states} states, {choices} choices, {branches} branches.")?;
+    println!(
+        rt,
+        "\nLoaded {name}: {states} states, {choices} choices, {branches} branches."
+    )?;
     print_held(rt, &tables, 3)?;
     print_held(rt, &tables, states)
 }
@@ -104,8 +161,15 @@ fn print_copy(rt: &LibcRuntime, name: &str) -> io::Result<()> {
     match tables.load_and_write(text.as_slice(), out.as_mut_slice()) {
         Ok(length) => {
             out.truncate(length);
-            let verdict = if out.as_slice() == text.as_slice() { "the same" } else { "not the same" };
-            println!(rt, "\nLoaded {name} and wrote it: {length} bytes, {verdict}.")
+            let verdict = if out.as_slice() == text.as_slice() {
+                "the same"
+            } else {
+                "not the same"
+            };
+            println!(
+                rt,
+                "\nLoaded {name} and wrote it: {length} bytes, {verdict}."
+            )
         }
         Err(fault) => {
             let number = fault.number();
@@ -116,17 +180,11 @@ fn print_copy(rt: &LibcRuntime, name: &str) -> io::Result<()> {
 
 fn main(rt: LibcRuntime) -> io::Result<()> {
     rt.println("A tour of kavzhubo: after each $ stands a command line, and under it the answer.")?;
-    play_all(&rt, &["help", "show relearn.mdp", "write relearn.mdp"])?;
+    play_all(&rt, "A file.", &FILES)?;
     print_copy(&rt, "relearn.mdp")?;
     print_layers(&rt, "relearn.mdp")?;
-    play_all(&rt, &["show ladder:2:4:3", "write ladder:2:4:3", "write ladder:1:1:1"])?;
-    rt.println("\nRefusals of a text, in the order of their numbers.")?;
-    play_all(&rt, &["show unended.mdp", "show word.mdp", "show fields.mdp", "show number.mdp"])?;
-    play_all(&rt, &["write crlf.mdp", "show range.mdp", "show labels.mdp", "show accent.mdp"])?;
-    play_all(&rt, &["show order.mdp", "write sum.mdp", "show states.mdp", "show missing.mdp", "show noend.mdp"])?;
-    rt.println("\nRefusals of a ladder.")?;
-    play_all(&rt, &["show ladder:0:4:3", "show ladder:2:0:3", "write ladder:2:4:5"])?;
-    rt.println("\nWrong command lines.")?;
-    play_all(&rt, &["", "chart relearn.mdp", "show", "show relearn.mdp twice", "show ladder:2:4"])?;
-    play(&rt, "show nowhere.mdp")
+    play_all(&rt, "Ladders.", &LADDERS)?;
+    play_all(&rt, "Refused files, in the order of the numbers.", &REFUSED)?;
+    play_all(&rt, "Refused ladders.", &REFUSED_LADDERS)?;
+    play_all(&rt, "Wrong command lines, and paths of no file.", &WRONG)
 }
