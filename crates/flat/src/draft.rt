@@ -1,21 +1,10 @@
-ghost use mathlib.Core.Path.{_≡_};
-ghost use mathlib.Core.List.{[], _∷_, _++_};
-ghost use Prim.Native.Nat.{_≤_, _<_};
+ghost use Prim.Native.Nat.{_<_};
 ghost use lib.ListN.{length};
-ghost use Rattle.std.specs.Of.Vec.{vec-items, vec-len, vec-cap};
+ghost use Rattle.std.specs.Of.Vec.{vec-items};
 ghost use Rattle.flat.specs.Drafts.{Emptied, Labelled, Opened, Branched, Closed};
 use crate::flat::Flat;
 use model::branch::Branch;
 use model::labels::Labels;
-
-// Puts x at the end of a vector that has room for it.
-fn append<T: Drop>(v: &mut Vec<T>, x: T)
-    requires { ⌜ vec-len (now v) < vec-cap (now v) ⌝ }
-    ensures items { λ _. ⌜ vec-items (now (v .exit)) ≡ vec-items (now (v .entry)) ++ (x ∷ []) ⌝ }
-    ensures capacity { λ _. ⌜ vec-cap (now (v .entry)) ≤ vec-cap (now (v .exit)) ⌝ }
-{
-    let _ = v.push(x);
-}
 
 impl Flat {
     // Empties the arrays; their room stays.
@@ -35,8 +24,8 @@ impl Flat {
         ensures { λ _. ⌜ Labelled labels (now (self .entry)) (now (self .exit)) ⌝ }
     {
         let choices = self.offsets.len();
-        append(&mut self.starts, choices);
-        append(&mut self.labels, labels);
+        self.starts.push_reserved(choices);
+        self.labels.push_reserved(labels);
     }
 
     // One choice more, whose first branch is the next.
@@ -45,7 +34,7 @@ impl Flat {
         ensures { λ _. ⌜ Opened (now (self .entry)) (now (self .exit)) ⌝ }
     {
         let branches = self.branches.len();
-        append(&mut self.offsets, branches);
+        self.offsets.push_reserved(branches);
     }
 
     // One branch more.
@@ -53,7 +42,7 @@ impl Flat {
         requires { ⌜ length (vec-items (now self .branches)) < 4096 ⌝ }
         ensures { λ _. ⌜ Branched branch (now (self .entry)) (now (self .exit)) ⌝ }
     {
-        append(&mut self.branches, branch);
+        self.branches.push_reserved(branch);
     }
 
     // Ends the arrays with the numbers of choices and of branches, and sets the denominator.
@@ -62,9 +51,9 @@ impl Flat {
         ensures { λ _. ⌜ Closed denominator (now (self .entry)) (now (self .exit)) ⌝ }
     {
         let choices = self.offsets.len();
-        append(&mut self.starts, choices);
+        self.starts.push_reserved(choices);
         let branches = self.branches.len();
-        append(&mut self.offsets, branches);
+        self.offsets.push_reserved(branches);
         self.denominator = denominator;
     }
 }
