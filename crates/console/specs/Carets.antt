@@ -4,24 +4,16 @@ use mathlib.Core.List.{List, [], _∷_, _++_, map}
 use Prim.Native.Nat.{ℕ, zero, suc, _+_, _-_, min}
 use lib.Chars.{codes}
 use lib.Dec.{eqb}
-use lib.ListN.{length, getD, take}
+use lib.ListN.{length, take}
 use Rattle.std.specs.declared.option.Option.{Option}
 use Rattle.std.specs.declared.option.Option.the-variants.{Some, None}
 use Rattle.text.specs.declared.fault.FileFault.{FileFault}
-use Rattle.text.specs.Cuts.{cut}
+use Rattle.text.specs.Cuts.{piece}
 use Rattle.text.specs.Faults.{fault-line, fault-field}
 use Rattle.text.specs.Fields.{between}
 use Rattle.console.specs.declared.drawn.Drawn.{Drawn}
 use Rattle.console.specs.declared.drawn.Drawn.the-variants.{Shown, Under}
 use Rattle.console.specs.Words.{file-refusal}
-
--- the pieces of some bytes that are cut at each `sep`, one more than there are such bytes
-abbrev pub pieces : ℕ → List ℕ → List (List ℕ)
-pieces sep bytes = cut sep ([] ∷ []) bytes
-
--- one of the pieces; empty where there is none
-abbrev pub piece : ℕ → ℕ → List ℕ → List ℕ
-piece sep k bytes = getD (pieces sep bytes) k []
 
 -- a byte as it is drawn. In the shown line, tabs (9) and printable ASCII stay, and `?` (63) stands for any other. In the line
 -- under it, a tab stands under a tab, so that what follows stands where it does above, and else a blank (32)

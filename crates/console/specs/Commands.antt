@@ -17,7 +17,7 @@ use Rattle.console.specs.declared.command.Mistake.{Mistake}
 use Rattle.console.specs.declared.command.Mistake.the-variants.{NoCommand, NoSuchCommand, NoModel, TooMany, NoLadder}
 use Rattle.console.specs.declared.command.Command.{Command}
 use Rattle.console.specs.declared.command.Command.the-variants.{Help, Show, Write, Wrong}
-use Rattle.console.specs.Carets.{piece, pieces}
+use Rattle.text.specs.Cuts.{piece, pieces}
 
 -- the command that a word spells
 abbrev pub verb-of : List ℕ → Option Verb

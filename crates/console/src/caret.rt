@@ -5,7 +5,7 @@ ghost use Rattle.console.specs.Carets.{drawn, field-place, caret-place, marked
 ghost use Rattle.std.specs.Of.String.{string-bytes};
 ghost use Rattle.std.specs.Vec.{made};
 use crate::drawn::Drawn;
-use crate::piece::piece;
+use text::cut::piece;
 use crate::words::file_refusal;
 use std::alloc::AllocError;
 use std::alloc::Global;

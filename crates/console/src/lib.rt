@@ -10,7 +10,6 @@ mod labels;
 mod lay;
 pub mod listing;
 pub mod parse;
-mod piece;
 pub mod reply;
 mod style;
 pub mod totals;

@@ -7,8 +7,8 @@ use crate::command::Command;
 use crate::command::Mistake;
 use crate::command::ModelName;
 use crate::command::Verb;
-use crate::piece::piece;
-use crate::piece::piece_count;
+use text::cut::piece;
+use text::cut::piece_count;
 use text::number::number;
 
 // Are the bytes those of the word?

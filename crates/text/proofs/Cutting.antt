@@ -9,7 +9,7 @@ use lib.Dec.{eqb}
 use lib.ListN.{length, take, drop, getD}
 use Rattle.std.proofs.shelf.Lists.{drop-drop, take-all}
 use Rattle.std.proofs.shelf.Tests.{cond-true, cond-false, cond-both, eq-eqb, ne-eqb, cases-lt}
-use Rattle.text.specs.Cuts.{FirstPiece, onto, cut, fields, field}
+use Rattle.text.specs.Cuts.{FirstPiece, onto, cut, pieces, piece}
 
 -- no byte before the place r is `sep`
 abbrev None-before : List ℕ → ℕ → ℕ → Type 0
@@ -45,45 +45,45 @@ cut-rest sep last one x (y ∷ ys) none =
     cond-false (eqb x sep) _ _ (ne-eqb x sep (none 0 (omega arith)))
     ∙ ap (onto x) (cut-rest sep last one y ys (none-on sep x (y ∷ ys) (length (y ∷ ys)) none))
 
--- bytes with no tab are one field
-one-field : (xs : List ℕ) → None-before xs 9 (length xs) → fields xs ≡ xs ∷ []
-one-field [] none = refl
-one-field (x ∷ xs) none = cut-rest 9 ([] ∷ []) (λ y. refl) x xs none
+-- the pieces that `sep` parts
+module _ (sep : ℕ) where
+  -- where the first piece is all, there is one piece
+  whole : (xs : List ℕ) (r : ℕ) → FirstPiece xs sep r → length xs ≤ r → pieces sep xs ≡ xs ∷ []
+  whole [] r p l = refl
+  whole (x ∷ xs) r p l = cut-rest sep ([] ∷ []) (λ y. refl) x xs (λ k h. p .before k (omega (arith, h)))
 
--- where the first piece is all, there is one field
-whole-field : (xs : List ℕ) (r : ℕ) → FirstPiece xs 9 r → length xs ≤ r → fields xs ≡ xs ∷ []
-whole-field xs r p l = one-field xs (λ k h. p .before k (omega (arith, h)))
+  -- piece 0 is the first piece
+  pub piece-first : (xs : List ℕ) (r : ℕ) → FirstPiece xs sep r → take r xs ≡ piece sep 0 xs
+  piece-first xs r p =
+      ⊎-elim
+      (λ l. ap (λ ps. getD ps 0 []) (sym (cut-more sep ([] ∷ []) xs r p l)))
+      (λ l. take-all r xs l ∙ ap (λ ps. getD ps 0 []) (sym (whole xs r p l)))
+      (cases-lt r (length xs))
 
--- field 0 is the first piece
-pub field-first : (xs : List ℕ) (r : ℕ) → FirstPiece xs 9 r → take r xs ≡ field 0 (fields xs)
-field-first xs r p =
-    ⊎-elim
-    (λ l. ap (field 0) (sym (cut-more 9 ([] ∷ []) xs r p l)))
-    (λ l. take-all r xs l ∙ ap (field 0) (sym (whole-field xs r p l)))
-    (cases-lt r (length xs))
+  -- past the first piece and the `sep` that ends it, each piece has a number less
+  pub piece-more : (xs : List ℕ) (r k : ℕ) → FirstPiece xs sep r → r < length xs → piece sep (suc k) xs ≡ piece sep k (drop (r + 1) xs)
+  piece-more xs r k p l = ap (λ ps. getD ps (suc k) []) (cut-more sep ([] ∷ []) xs r p l)
 
--- past the first piece and its tab, each field has a number less
-pub field-more : (xs : List ℕ) (r k : ℕ) → FirstPiece xs 9 r → r < length xs → field (suc k) (fields xs) ≡ field k (fields (drop (r + 1) xs))
-field-more xs r k p l = ap (field (suc k)) (cut-more 9 ([] ∷ []) xs r p l)
+  -- where the first piece is all, there is no further piece
+  pub piece-none : (xs : List ℕ) (r k : ℕ) → FirstPiece xs sep r → length xs ≤ r → piece sep (suc k) xs ≡ []
+  piece-none xs r k p l = ap (λ ps. getD ps (suc k) []) (whole xs r p l)
 
--- where the first piece is all, there is no further field
-pub field-none : (xs : List ℕ) (r k : ℕ) → FirstPiece xs 9 r → length xs ≤ r → field (suc k) (fields xs) ≡ []
-field-none xs r k p l = ap (field (suc k)) (whole-field xs r p l)
+  -- a byte in front of some pieces leaves their number
+  length-onto : (x : ℕ) (ps : List (List ℕ)) → 0 < length ps → length (onto x ps) ≡ length ps
+  length-onto x [] l = absurd (omega (arith, l))
+  length-onto x (p ∷ ps) l = refl
 
--- a byte in front of some pieces leaves their number
-length-onto : (x : ℕ) (ps : List (List ℕ)) → 0 < length ps → length (onto x ps) ≡ length ps
-length-onto x [] l = absurd (omega (arith, l))
-length-onto x (p ∷ ps) l = refl
+  -- there is a piece
+  pub some-piece : (xs : List ℕ) → 0 < length (pieces sep xs)
+  some-piece [] = omega arith
+  some-piece (x ∷ xs) =
+      cond-both (eqb x sep) _ _ (λ ps. 0 < length ps) (λ _. omega arith)
+      (λ _. omega (arith, length-onto x (pieces sep xs) (some-piece xs), some-piece xs))
 
--- every line has a field
-pub some-field : (xs : List ℕ) → 0 < length (fields xs)
-some-field [] = omega arith
-some-field (x ∷ xs) = cond-both (eqb x 9) _ _ (λ z. 0 < length z) (λ _. omega arith) (λ _. omega (arith, length-onto x (fields xs) (some-field xs), some-field xs))
+  -- a `sep` in front makes one piece more
+  pub count-more : (x : ℕ) (xs : List ℕ) → x ≡ sep → length (pieces sep (x ∷ xs)) ≡ length (pieces sep xs) + 1
+  count-more x xs e = ap length (cond-true (eqb x sep) ([] ∷ pieces sep xs) _ (eq-eqb x sep e)) ∙ sym (add-one (length (pieces sep xs)))
 
--- a tab in front makes one field more
-pub count-tab : (x : ℕ) (xs : List ℕ) → x ≡ 9 → length (fields (x ∷ xs)) ≡ length (fields xs) + 1
-count-tab x xs e = ap length (cond-true (eqb x 9) ([] ∷ fields xs) _ (eq-eqb x 9 e)) ∙ sym (add-one (length (fields xs)))
-
--- any other byte makes none
-pub count-byte : (x : ℕ) (xs : List ℕ) → (x ≡ 9 → ⊥) → length (fields (x ∷ xs)) ≡ length (fields xs)
-count-byte x xs e = ap length (cond-false (eqb x 9) _ (onto x (fields xs)) (ne-eqb x 9 e)) ∙ length-onto x (fields xs) (some-field xs)
+  -- any other byte makes none
+  pub count-same : (x : ℕ) (xs : List ℕ) → (x ≡ sep → ⊥) → length (pieces sep (x ∷ xs)) ≡ length (pieces sep xs)
+  count-same x xs e = ap length (cond-false (eqb x sep) _ (onto x (pieces sep xs)) (ne-eqb x sep e)) ∙ length-onto x (pieces sep xs) (some-piece xs)

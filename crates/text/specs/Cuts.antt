@@ -20,9 +20,17 @@ cut sep last (x ∷ xs) = cond (eqb x sep) ([] ∷ cut sep last xs) (onto x (cut
 abbrev pub Line : Type 0
 Line = List (List ℕ)
 
+-- the pieces that each byte `sep` parts: one more than there are such bytes
+abbrev pub pieces : ℕ → List ℕ → List (List ℕ)
+pieces sep bytes = cut sep ([] ∷ []) bytes
+
+-- one of the pieces; empty where there is none
+abbrev pub piece : ℕ → ℕ → List ℕ → List ℕ
+piece sep k bytes = getD (pieces sep bytes) k []
+
 -- the fields of a line's bytes: a tab (9) parts two fields, so even an empty line has one
 abbrev pub fields : List ℕ → Line
-fields bytes = cut 9 ([] ∷ []) bytes
+fields bytes = pieces 9 bytes
 
 -- the lines of a list of pieces
 abbrev pub each-fields : List (List ℕ) → List Line

@@ -6,7 +6,7 @@ use native.Mathlib.Omega.{arith}
 use lib.Dec.{eqb}
 use lib.ListN.{length, getD}
 use Rattle.std.proofs.shelf.Tests.{eqb-true, cond-both}
-use Rattle.text.proofs.Cutting.{some-field}
+use Rattle.text.proofs.Cutting.{some-piece}
 use Rattle.text.specs.Cuts.{onto, cut, fields, each-fields, lines, parted, spelled}
 
 -- there is a piece after any byte
@@ -30,7 +30,7 @@ pub parted-fields : (bytes : List ℕ) → parted (fields bytes) ≡ bytes
 parted-fields [] = refl
 parted-fields (x ∷ xs) =
     cond-both (eqb x 9) _ _ (λ ps. parted ps ≡ x ∷ xs)
-    (λ e. parted-tab (fields xs) (some-field xs) ∙ ap₂ (λ y ys. y ∷ ys) (sym (eqb-true x 9 e)) (parted-fields xs))
+    (λ e. parted-tab (fields xs) (some-piece 9 xs) ∙ ap₂ (λ y ys. y ∷ ys) (sym (eqb-true x 9 e)) (parted-fields xs))
     (λ e. parted-onto x (fields xs) ∙ ap (λ ys. x ∷ ys) (parted-fields xs))
 
 -- one more byte in front of the first line

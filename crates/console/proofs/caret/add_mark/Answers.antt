@@ -6,7 +6,8 @@ use lib.Dec.{eqb}
 use lib.ListN.{take}
 use Rattle.std.specs.Of.String.{string-bytes}
 use Rattle.std.proofs.shelf.Tests.{cond-false, ne-eqb}
-use Rattle.console.specs.Carets.{piece, marked}
+use Rattle.text.specs.Cuts.{piece}
+use Rattle.console.specs.Carets.{marked}
 use Rattle.console.proofs.caret.add_mark.Needs as need
 
 pub returns : need.returns

@@ -3,9 +3,9 @@ use Prim.Native.Nat.{suc, _+_, _-_}
 use native.Mathlib.Omega.{arith}
 use lib.ListN.{length, take, length-drop}
 use Rattle.std.proofs.shelf.Lists.{take-rest}
-use Rattle.console.specs.Carets.{piece}
-use Rattle.console.proofs.Cutting.{piece-first, piece-more, piece-none}
-use Rattle.console.proofs.piece.piece.Needs as need
+use Rattle.text.specs.Cuts.{piece}
+use Rattle.text.proofs.Cutting.{piece-first, piece-more, piece-none}
+use Rattle.text.proofs.cut.piece.Needs as need
 
 pub returns-then-length-rest : need.returns-then-length-rest
 returns-then-length-rest c =

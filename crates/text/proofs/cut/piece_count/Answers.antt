@@ -2,10 +2,10 @@ use Prim.Native.Nat.{_+_}
 use native.Mathlib.Omega.{arith}
 use lib.ListN.{length, drop, getD}
 use Rattle.std.proofs.shelf.Lists.{at-drop-more, at-drop-all}
-use Rattle.console.specs.Carets.{pieces}
-use Rattle.console.proofs.Cutting.{count-more, count-same}
-use Rattle.console.proofs.piece.piece_count.Needs as need
-use Rattle.console.proofs.piece.piece_count.Needs.{then-byte-sep, else-byte-sep}
+use Rattle.text.specs.Cuts.{pieces}
+use Rattle.text.proofs.Cutting.{count-more, count-same}
+use Rattle.text.proofs.cut.piece_count.Needs as need
+use Rattle.text.proofs.cut.piece_count.Needs.{then-byte-sep, else-byte-sep}
 
 pub loop-byte-again : need.loop-byte-again
 loop-byte-again c =

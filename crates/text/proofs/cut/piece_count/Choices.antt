@@ -1,8 +1,8 @@
 use mathlib.Core.Path.{_≡_}
 use Prim.Native.Nat.{_+_, _≤_}
 use lib.ListN.{length, drop}
-use Rattle.console.specs.Carets.{pieces}
-use Rattle.console.proofs.piece.piece_count.Given as given
+use Rattle.text.specs.Cuts.{pieces}
+use Rattle.text.proofs.cut.piece_count.Given as given
 
 abbrev pub Inv-loop-byte : given.InvT-loop-byte
 Inv-loop-byte l =
