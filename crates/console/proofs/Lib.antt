@@ -1,7 +1,1 @@
-pub mod Spelling
-pub mod Cutting
-pub mod Drawing
-pub mod Laying
-pub mod Texts
-pub mod Counting
 pub mod Returning

@@ -8,12 +8,12 @@ use Rattle.std.specs.Options.{Cases}
 use Rattle.text.specs.Refusals.{refusal}
 use Rattle.text.specs.Texts.{Describes}
 use Rattle.console.specs.declared.reply.Form.{Form}
-use Rattle.console.specs.Carets.{refusal-text}
+use Rattle.printing.specs.Carets.{refusal-text}
 use Rattle.console.specs.Replies.{Answer, printed, refused, in-form, TextAnswer}
 use Rattle.std.specs.Iters.{counting}
 use Rattle.std.proofs.shelf.Counted.{fill-by-all}
 use Rattle.text.specs.Contents.{State, Content, model-of, no-state}
-use Rattle.console.specs.Layouts.{state-of, content-of}
+use Rattle.printing.specs.Layouts.{state-of, content-of}
 
 -- what the model of a content has is that content
 pub content-back : (c : Content) → content-of (model-of c) ≡ c

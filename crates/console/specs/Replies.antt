@@ -23,10 +23,10 @@ use Rattle.console.specs.declared.reply.Form.{Form}
 use Rattle.console.specs.declared.reply.Form.the-variants.{Listing, Text}
 use Rattle.console.specs.declared.reply.Reply.{Reply}
 use Rattle.console.specs.declared.reply.Reply.the-variants as reply
-use Rattle.console.specs.Words.{ladder-refusal}
-use Rattle.console.specs.Carets.{refusal-text}
-use Rattle.console.specs.Layouts.{content-of}
-use Rattle.console.specs.Listings.{show-text}
+use Rattle.printing.specs.Words.{ladder-refusal}
+use Rattle.printing.specs.Carets.{refusal-text}
+use Rattle.printing.specs.Layouts.{content-of}
+use Rattle.printing.specs.Listings.{show-text}
 use Rattle.console.specs.Commands.{word-at, command-of}
 use Rattle.console.specs.Helps.{help-text, mistake-text, no-file-text}
 

@@ -1,16 +1,7 @@
-// The command line as functions on values: text in, text out.
-// It may use the crates model, text, tables, ladder and layers.
+// The command line as functions on values: words and bytes in, a reply out.
+// It may use the crates model, text, tables, ladder, layers and printing.
 pub mod answer;
-pub mod caret;
 pub mod command;
-mod counts;
-mod drawn;
 pub mod help;
-mod labels;
-mod lay;
-pub mod listing;
 pub mod parse;
 pub mod reply;
-mod style;
-pub mod totals;
-pub mod words;

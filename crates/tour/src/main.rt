@@ -2,14 +2,14 @@
 // the program. It may use the console crate and those below it.
 use console::answer::path;
 use console::answer::reply;
-use console::listing::state_text;
-use console::listing::totals;
 use console::reply::Reply;
-use console::words::hold_refusal;
 use layers::hold::Hold;
 use layers::hold::HoldSource;
 use model::refs::RefSource;
 use model::source::Source;
+use printing::listing::state_text;
+use printing::listing::totals;
+use printing::words::hold_refusal;
 use std::alloc::AllocError;
 use std::alloc::Global;
 use std::fs;

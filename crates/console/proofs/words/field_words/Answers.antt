@@ -1,9 +1,0 @@
-use mathlib.Core.Path.{ap, sym}
-use Rattle.console.specs.Words.{field-words}
-use Rattle.console.proofs.words.field_words.Needs as need
-
-pub returns-in-Number : need.returns-in-Number
-returns-in-Number c = sym (ap field-words (c .in-Number .is))
-
-pub returns-in-Labels : need.returns-in-Labels
-returns-in-Labels c = sym (ap field-words (c .in-Labels .is))

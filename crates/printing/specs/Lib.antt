@@ -1,0 +1,4 @@
+pub mod Words
+pub mod Carets
+pub mod Layouts
+pub mod Listings
