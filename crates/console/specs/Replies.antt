@@ -25,7 +25,7 @@ use Rattle.console.specs.declared.reply.Reply.{Reply}
 use Rattle.console.specs.declared.reply.Reply.the-variants as reply
 use Rattle.printing.specs.Words.{ladder-refusal}
 use Rattle.printing.specs.Carets.{refusal-text}
-use Rattle.printing.specs.Layouts.{content-of}
+use Rattle.printing.specs.Layouts.{model-content}
 use Rattle.printing.specs.Listings.{show-text}
 use Rattle.console.specs.Commands.{word-at, command-of}
 use Rattle.console.specs.Helps.{help-text, mistake-text, no-file-text}
@@ -53,7 +53,7 @@ or-refused None text = printed text
 or-refused (Some f) text = refused (ladder-refusal f ++ codes "\n")
 
 abbrev pub ladder-answer : Form → ℕ → ℕ → ℕ → Answer
-ladder-answer form r d w = or-refused (ladder-fault r d w) (in-form form (content-of (ladder-model r d w)))
+ladder-answer form r d w = or-refused (ladder-fault r d w) (in-form form (model-content (ladder-model r d w)))
 
 -- the answer of a text: what is printed of the content that it describes, or its refusal
 abbrev pub TextAnswer : Form → List ℕ → Answer → Type 0

@@ -1,6 +1,6 @@
 ghost use mathlib.Core.Path.{_≡_};
 ghost use mathlib.Core.List.{map};
-ghost use Rattle.printing.specs.Layouts.{content-of};
+ghost use Rattle.printing.specs.Layouts.{model-content};
 ghost use Rattle.console.specs.Replies.{answer-of, printed, refused, wrong, in-form, ladder-answer, TextAnswer, FileAnswer, ModelAnswer, Answers, path-wanted};
 ghost use Rattle.console.specs.Commands.{command-of};
 ghost use Rattle.printing.specs.Words.{ladder-refusal};
@@ -40,7 +40,7 @@ fn printed(text: String) -> Reply
 
 // The reply that prints a source in a form.
 fn source_reply<S: Source>(heap: Global, form: Form, source: &S) -> Result<Reply, AllocError>
-    ensures { λ r. ⌜ made r (λ a. answer-of a ≡ printed (in-form form (content-of (S·Source .model (now (source .entry)))))) ⌝ }
+    ensures { λ r. ⌜ made r (λ a. answer-of a ≡ printed (in-form form (model-content (S·Source .model (now (source .entry)))))) ⌝ }
 {
     let text = model_text(heap, source)?;
     match form {

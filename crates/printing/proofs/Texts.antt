@@ -11,7 +11,7 @@ use Rattle.text.specs.Contents.{State, Content}
 use Rattle.text.specs.Texts.{row-lines, choices-lines, states-lines, content-lines, end-line, text-of}
 use Rattle.std.proofs.shelf.Counted.{length-map-counting}
 use Rattle.model.specs.Mdp.{Mdp}
-use Rattle.printing.specs.Layouts.{laid, laid-choice, laid-state, laid-states, state-of, content-of}
+use Rattle.printing.specs.Layouts.{laid, laid-choice, laid-state, laid-states, state-of, model-content}
 use Rattle.printing.specs.Listings.{model-text, framed}
 
 -- lines one after another are spelled one after another
@@ -35,9 +35,9 @@ states-text [] i = refl
 states-text (s ∷ ss) i = simp (choices-text, states-text ss (i + 1), spelled-append, append-assoc, append-nil)
 
 -- the whole text of a model
-pub whole-text : (m : Mdp) (n d : ℕ) (lines : List ℕ) → n ≡ m .states → d ≡ m .denominator → lines ≡ laid-states model-text (content-of m .states) → framed n d lines ≡ text-of (content-of m)
+pub whole-text : (m : Mdp) (n d : ℕ) (lines : List ℕ) → n ≡ m .states → d ≡ m .denominator → lines ≡ laid-states model-text (model-content m .states) → framed n d lines ≡ text-of (model-content m)
 whole-text m n d lines e f h =
-    let c = content-of m in
+    let c = model-content m in
     let count : n ≡ length (c .states) = e ∙ sym (length-map-counting (state-of m) 0 (m .states)) in
     let body : laid-states model-text (c .states) ++ codes "end\n" ≡ spelled (states-lines (c .states) ++ (end-line ∷ [])) = ap (λ t. t ++ codes "end\n") (states-text (c .states) 0) ∙ sym (spelled-append (states-lines (c .states)) (end-line ∷ [])) in
     ap (λ k. framed k d lines) count ∙ ap (λ k. framed (length (c .states)) k lines) f ∙ ap (λ t. framed (length (c .states)) (c .denominator) t) h

@@ -45,5 +45,5 @@ abbrev pub state-of : Mdp → ℕ → State
 state-of m s = record { labels = m .labels s; choices = m .choices s }
 
 -- what a model has
-abbrev pub content-of : Mdp → Content
-content-of m = record { denominator = m .denominator; states = map (state-of m) (counting 0 (m .states)) }
+abbrev pub model-content : Mdp → Content
+model-content m = record { denominator = m .denominator; states = map (state-of m) (counting 0 (m .states)) }

@@ -1,12 +1,12 @@
 ghost use mathlib.Core.Path.{_≡_};
 ghost use lib.ListN.{length};
-ghost use Rattle.printing.specs.Layouts.{content-of};
+ghost use Rattle.printing.specs.Layouts.{model-content};
 ghost use Rattle.text.specs.Contents.{all-choices, all-branches};
 use model::source::Source;
 
 // How many choices a source has in all.
 pub(crate) fn choice_count<S: Source>(source: &S) -> usize
-    ensures { λ r. ⌜ r ≡ length (all-choices (content-of (S·Source .model (now (source .entry))) .states)) ⌝ }
+    ensures { λ r. ⌜ r ≡ length (all-choices (model-content (S·Source .model (now (source .entry))) .states)) ⌝ }
 {
     let mut count = 0;
     for state in 0..source.states() {
@@ -28,7 +28,7 @@ fn state_branches<S: Source>(source: &S, state: usize) -> usize
 
 // How many branches a source has in all.
 pub(crate) fn branch_count<S: Source>(source: &S) -> usize
-    ensures { λ r. ⌜ r ≡ length (all-branches (all-choices (content-of (S·Source .model (now (source .entry))) .states))) ⌝ }
+    ensures { λ r. ⌜ r ≡ length (all-branches (all-choices (model-content (S·Source .model (now (source .entry))) .states))) ⌝ }
 {
     let mut count = 0;
     for state in 0..source.states() {

@@ -1,5 +1,5 @@
 ghost use mathlib.Core.Path.{_≡_};
-ghost use Rattle.printing.specs.Layouts.{laid-choice, laid-state, laid-states, state-of, content-of};
+ghost use Rattle.printing.specs.Layouts.{laid-choice, laid-state, laid-states, state-of, model-content};
 ghost use Rattle.model.specs.Mdp.{row};
 ghost use Rattle.std.specs.Of.String.{string-bytes};
 ghost use Rattle.std.specs.Vec.{made};
@@ -50,7 +50,7 @@ pub(crate) fn lay_states<S: Source, L: Style>(
     style: &L,
     source: &S,
 ) -> Result<String, AllocError>
-    ensures { λ r. ⌜ made r (λ s. string-bytes s ≡ laid-states (L·Style .layout (now (style .entry))) (content-of (S·Source .model (now (source .entry))) .states)) ⌝ }
+    ensures { λ r. ⌜ made r (λ s. string-bytes s ≡ laid-states (L·Style .layout (now (style .entry))) (model-content (S·Source .model (now (source .entry))) .states)) ⌝ }
 {
     let mut out = String::new(heap);
     for state in 0..source.states() {

@@ -1,5 +1,5 @@
 ghost use mathlib.Core.Path.{_≡_};
-ghost use Rattle.printing.specs.Layouts.{content-of, state-of, laid-state};
+ghost use Rattle.printing.specs.Layouts.{model-content, state-of, laid-state};
 ghost use Rattle.printing.specs.Listings.{listing, framed, totals-of, totals-text, show-text};
 ghost use Rattle.std.specs.Of.String.{string-bytes};
 ghost use Rattle.std.specs.Vec.{made};
@@ -38,7 +38,7 @@ pub fn state_text<S: Source>(heap: Global, source: &S, state: usize) -> Result<S
 
 // The model text of a source.
 pub fn model_text<S: Source>(heap: Global, source: &S) -> Result<String, AllocError>
-    ensures { λ r. ⌜ made r (λ s. string-bytes s ≡ text-of (content-of (S·Source .model (now (source .entry))))) ⌝ }
+    ensures { λ r. ⌜ made r (λ s. string-bytes s ≡ text-of (model-content (S·Source .model (now (source .entry))))) ⌝ }
 {
     let lines = lay_states(heap, &ModelText, source)?;
     framed(heap, source.states(), source.denominator(), &lines)
@@ -46,7 +46,7 @@ pub fn model_text<S: Source>(heap: Global, source: &S) -> Result<String, AllocEr
 
 // The totals of a source whose text has so many bytes.
 pub fn totals<S: Source>(source: &S, bytes: usize) -> Totals
-    ensures { λ r. ⌜ r ≡ totals-of bytes (content-of (S·Source .model (now (source .entry)))) ⌝ }
+    ensures { λ r. ⌜ r ≡ totals-of bytes (model-content (S·Source .model (now (source .entry)))) ⌝ }
 {
     Totals {
         bytes,
@@ -74,7 +74,7 @@ fn totals_text(heap: Global, totals: &Totals) -> Result<String, AllocError>
 
 // What `show` prints of a source whose text has so many bytes.
 pub fn show_text<S: Source>(heap: Global, source: &S, bytes: usize) -> Result<String, AllocError>
-    ensures { λ r. ⌜ made r (λ s. string-bytes s ≡ show-text bytes (content-of (S·Source .model (now (source .entry))))) ⌝ }
+    ensures { λ r. ⌜ made r (λ s. string-bytes s ≡ show-text bytes (model-content (S·Source .model (now (source .entry))))) ⌝ }
 {
     let mut text = totals_text(heap, &totals(source, bytes))?;
     let lines = lay_states(heap, &Listing, source)?;
