@@ -35,7 +35,7 @@ fn main(rt: LibcRuntime) -> io::Result<()> {
         Ok(true) => Ok(()),
         Ok(false) => Err(io::Error::from(io::ErrorKind::InvalidInput)),
         Err(error) => {
-            rt.eprintln(error)?;
+            eprintln!(rt, "kavzhubo: {error}")?;
             Err(io::Error::from(io::ErrorKind::Other))
         }
     }
