@@ -47,11 +47,12 @@ abbrev pub in-form : Form → Content → List ℕ
 in-form Listing c = show-text (length (text-of c)) c
 in-form Text c = text-of c
 
--- the answer of a ladder: its refusal, or what is printed of it
+-- what is printed, or a refusal where there is a fault
 abbrev pub or-refused : Option LadderFault → List ℕ → Answer
 or-refused None text = printed text
 or-refused (Some f) text = refused (ladder-refusal f ++ codes "\n")
 
+-- the answer of a ladder: its refusal, or what is printed of it
 abbrev pub ladder-answer : Form → ℕ → ℕ → ℕ → Answer
 ladder-answer form r d w = or-refused (ladder-fault r d w) (in-form form (model-content (ladder-model r d w)))
 

@@ -18,6 +18,7 @@ pub enum CopyFault {
     Write(NoRoom),
 }
 
+// A refused text is a fault of copying.
 pub impl From<FileFault> for CopyFault as CopyFromFile {
     ghost converts = { λ e r. r ≡ Load e };
 
@@ -26,6 +27,7 @@ pub impl From<FileFault> for CopyFault as CopyFromFile {
     }
 }
 
+// Want of room is a fault of copying.
 pub impl From<NoRoom> for CopyFault as CopyFromNoRoom {
     ghost converts = { λ e r. r ≡ Write e };
 

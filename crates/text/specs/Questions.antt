@@ -40,10 +40,11 @@ header [] = []
 header (l ∷ []) = l
 header (l ∷ k ∷ before) = header (k ∷ before)
 
--- the number of states and the denominator that the header gives
+-- the number of states that the header gives
 abbrev pub states-given : List Line → ℕ
 states-given before = number 1 (header before)
 
+-- the denominator that the header gives
 abbrev pub denominator-given : List Line → ℕ
 denominator-given before = number 2 (header before)
 
@@ -70,11 +71,12 @@ closed before = cond (one-of (Branch ∷ []) (last-word before)) (eqb (row-sum b
 abbrev pub word-fits : List Line → Line → Bool
 word-fits before line = is (followers (last-word before)) line
 
--- 4: has the line so many fields as its word asks?
+-- does a word ask for so many fields?
 abbrev pub counted : Option Word → ℕ → Bool
 counted None n = false
 counted (Some w) n = eqb n (arity w)
 
+-- 4: has the line so many fields as its word asks?
 abbrev pub fields-fit : Line → Bool
 fields-fit line = counted (word line) (length line)
 

@@ -33,10 +33,11 @@ abbrev pub first : {F : Type 0} → List (Option F) → Option F
 first [] = None
 first (f ∷ fs) = or-next f (first fs)
 
--- the faults of a field: its number, and the length of its longest lawful beginning
+-- the fault of field k where it is no lawful number: the field, and the length of its longest lawful beginning
 abbrev pub number-fault : ℕ → Line → LineFault
 number-fault k line = Field (field-fault.Number k (longest lawful-number (field k line)))
 
+-- the fault of field k where it is no lawful set of labels
 abbrev pub labels-fault : ℕ → Line → LineFault
 labels-fault k line = Field (field-fault.Labels k (longest lawful-labels (field k line)))
 
