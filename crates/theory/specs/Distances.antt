@@ -1,0 +1,50 @@
+-- Chapter 10. Undecided states: a state's value, and how near it lies to the bound.
+use mathlib.Core.Path.{_≡_}
+use mathlib.Core.Bool.{Bool, true, false}
+use Prim.Native.Nat.{ℕ, _+_, _*_, _^_, _≤_, _<_}
+use Rattle.model.specs.Mdp.{Mdp, Lawful}
+use Rattle.theory.specs.Adversaries.{Adversary, Allowed}
+use Rattle.theory.specs.Tallies.{tally, next-tally}
+use Rattle.theory.specs.Mixes.{whole}
+use Rattle.theory.specs.Formulas.{Comparison, below, at-most, above, at-least, Formula, probability, next, until-within, SetOf, Holds}
+use Rattle.theory.specs.Verdicts.{VerdictSets, verdicts}
+
+-- whatever bound x fits, y fits too
+abbrev pub Harder : Comparison → ℕ → ℕ → Type 0
+Harder below x y = y ≤ x
+Harder at-most x y = y ≤ x
+Harder above x y = x ≤ y
+Harder at-least x y = x ≤ y
+
+-- a state's value is the tally that is hardest to fit, its worst for `>` and `>=`, else its best: some adversary has it and none is harder
+pub record Extreme (c : Comparison) (m : Mdp) (tallied : Adversary → ℕ) (x : ℕ) : Type 0 where
+  pub attained : (σ : Adversary) × Allowed m σ × (tallied σ ≡ x)
+  pub kept : (σ : Adversary) → Allowed m σ → Harder c x (tallied σ)
+
+-- the tally x, out of `all`, lies within u units of b
+pub record Within-units (u b all x : ℕ) : Type 0 where
+  pub not-over : x * whole ≤ b * all + u * all
+  pub not-under : b * all ≤ x * whole + u * all
+
+-- no state is undecided
+abbrev pub Decided : Mdp → VerdictSets → Type 0
+Decided m v = (s : ℕ) → s < m .states → v .sure s ≡ v .possible s
+
+-- the state s is undecided
+pub record Undecided (v : VerdictSets) (s : ℕ) : Type 0 where
+  pub not-sure : v .sure s ≡ false
+  pub is-possible : v .possible s ≡ true
+
+-- an undecided until with k steps over decided parts: the state has a value, and it lies within k units of the bound
+abbrev pub Until-near : Type 0
+Until-near = (m : Mdp) → Lawful m → (c : Comparison) (b k : ℕ) (f g : Formula) → Decided m (verdicts m f) → Decided m (verdicts m g) →
+    (s : ℕ) → s < m .states → Undecided (verdicts m (probability c b (until-within k f g))) s →
+    (left right : ℕ → Bool) → SetOf m (Holds m f) left → SetOf m (Holds m g) right →
+    (x : ℕ) × Extreme c m (λ σ. tally left right k m σ s) x × Within-units k b (m .denominator ^ k) x
+
+-- an undecided next over a decided part: the same within one unit
+abbrev pub Next-near : Type 0
+Next-near = (m : Mdp) → Lawful m → (c : Comparison) (b : ℕ) (f : Formula) → Decided m (verdicts m f) →
+    (s : ℕ) → s < m .states → Undecided (verdicts m (probability c b (next f))) s →
+    (set : ℕ → Bool) → SetOf m (Holds m f) set →
+    (x : ℕ) × Extreme c m (λ σ. next-tally set m σ s) x × Within-units 1 b (m .denominator ^ 1) x

@@ -1,0 +1,10 @@
+pub mod Adversaries
+pub mod Tallies
+pub mod Rules
+pub mod Rounds
+pub mod Mixes
+pub mod Ends
+pub mod WithoutSteps
+pub mod Formulas
+pub mod Verdicts
+pub mod Distances
