@@ -13,12 +13,12 @@ use Rattle.theory.specs.Tallies.{Run, runs, meets, weigh, tally-after, tally, 
 use Rattle.theory.specs.Rules.{valued}
 use Rattle.theory.specs.Rounds.{value, rounds}
 use Rattle.theory.specs.Mixes.{whole, sum-of, mix-down, mix-up, greater, lesser}
-use Rattle.theory.specs.Ends.{start}
+use Rattle.theory.specs.Ends.{Next-ends-bound, Best-next-ends, Worst-next-ends, start}
 use Rattle.theory.proofs.Lists.{true-not-false, which}
 use Rattle.theory.proofs.Rounds.{row-within, some-adversary, no-adversary}
 use Rattle.theory.proofs.RuleLaws.{down-greater, down-lesser, up-greater, up-lesser}
 use Rattle.theory.proofs.Tallies.{spread, spread-le, spread-mul, weigh-suc}
-use Rattle.theory.proofs.Ends.{sum-spread, down-below, up-above}
+use Rattle.theory.proofs.Ends.{rounds-close, greater-close, lesser-close, sum-spread, down-below, up-above}
 use Rattle.theory.proofs.Exact.{mix-sum, one-in, sum-greater, sum-lesser}
 
 abbrev pub Subset : Mdp → (ℕ → Bool) → (ℕ → Bool) → Type 0
@@ -120,3 +120,10 @@ module _ (set : ℕ → Bool) (m : Mdp) (l : Lawful m) (s : ℕ) (p : s < m .sta
 
   pub next-worst-some : (σ : Adversary) × Allowed m σ × (next-tally set m σ s * whole ≤ rounds lesser mix-up 1 m (start set) s * m .denominator ^ 1)
   next-worst-some = let c = some-adversary lesser mix-up up-lesser m l (start set) 1 s p in (c .0, c .1, rw (c .2) at (next-up m l (c .0) (c .1) set s))
+
+-- the ends of a next bound every adversary
+pub next-ends-bound : Next-ends-bound
+next-ends-bound set m l s p = (
+  record { none-above = next-none-above set m l s p; some-reaches = next-best-some set m l s p; gap = rounds-close greater greater-close m l (start set) 1 s p },
+  record { none-below = next-none-below set m l s p; some-reaches = next-worst-some set m l s p; gap = rounds-close lesser lesser-close m l (start set) 1 s p },
+)

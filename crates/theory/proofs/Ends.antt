@@ -15,7 +15,7 @@ use Rattle.theory.specs.Tallies.{tally-after, tally}
 use Rattle.theory.specs.Rules.{RuleLaws, valued}
 use Rattle.theory.specs.Rounds.{most, most-of, mixed, value, round, rounds}
 use Rattle.theory.specs.Mixes.{whole, sum-of, mix-down, mix-up, greater, lesser}
-use Rattle.theory.specs.Ends.{Close, back, hold, held, stops, start, lower, upper}
+use Rattle.theory.specs.Ends.{Ends-bound, Best-ends, Worst-ends, Close, back, hold, held, stops, start, lower, upper}
 use Rattle.theory.proofs.Rounds.{Within, row-lawful, row-within, ascends-within, some-adversary, no-adversary}
 use Rattle.theory.proofs.RuleLaws.{down-greater, down-lesser, up-greater, up-lesser, div-mono}
 use Rattle.theory.proofs.Tallies.{spread, spread-mul, spread-le, spread-add, tally-right, tally-out, tally-none, tally-on}
@@ -189,3 +189,10 @@ best-close left right m l k s p = rounds-close greater greater-close (held left 
 
 pub worst-close : (left right : ℕ → Bool) (m : Mdp) → Lawful m → (k s : ℕ) → s < m .states → Close k (lower lesser left right k m s) (upper lesser left right k m s)
 worst-close left right m l k s p = rounds-close lesser lesser-close (held left right m) (hold-lawful (stops left right) m l) (start right) k s p
+
+-- the ends bound every adversary
+pub ends-bound : Ends-bound
+ends-bound left right m l k s p = (
+  record { none-above = best-none-above left right m l k s p; some-reaches = best-some left right m l k s p; gap = best-close left right m l k s p },
+  record { none-below = worst-none-below left right m l k s p; some-reaches = worst-some left right m l k s p; gap = worst-close left right m l k s p },
+)

@@ -41,6 +41,16 @@ module _ (m : Mdp) (l : Lawful m) (s : ℕ) (p : s < m .states) where
     end-no r f = fits-test c no-end b .1 (fits-part c no-end b (m .denominator ^ k) (one-le-pow k (m .denominator) (l .some-unit))
         (fits-harder c (q (r .0) * whole) (no-end * m .denominator ^ k) (b * m .denominator ^ k) (r .2) (f (r .0) (r .1))))
 
+  -- where that end does not fit, some adversary does not
+  pub end-fails : (q : Adversary → ℕ) (b k no-end : ℕ) (c : Comparison) → (σ : Adversary) × Allowed m σ × Harder c (q σ * whole) (no-end * m .denominator ^ k) →
+      fits c no-end b ≡ false → (σ : Adversary) × Allowed m σ × ¬ (Fits c (q σ * whole) (b * m .denominator ^ k))
+  end-fails q b k no-end c r e = (
+    r .0,
+    r .1,
+    λ f. true-not-false (fits c no-end b) (fits-test c no-end b .1 (fits-part c no-end b (m .denominator ^ k) (one-le-pow k (m .denominator) (l .some-unit))
+        (fits-harder c (q (r .0) * whole) (no-end * m .denominator ^ k) (b * m .denominator ^ k) (r .2) f))) e,
+  )
+
   module _ (v w : VerdictSets) (left right : ℕ → Bool) (x : Among m v left) (y : Among m w right) (k : ℕ) where
     more : (σ : Adversary) → Allowed m σ → tally (v .sure) (w .sure) k m σ s * whole ≤ tally left right k m σ s * whole
     more σ a = mul-le-mul-right whole (tally-below m l σ a (v .sure) left (w .sure) right (x .low) (y .low) k [] s p)

@@ -9,7 +9,6 @@ pub mod Powers
 pub mod Sure
 pub mod Settle
 pub mod Exact
-pub mod Verdicts
 pub mod Between
 pub mod Compare
 pub mod Meaning

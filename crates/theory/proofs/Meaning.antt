@@ -11,7 +11,7 @@ use Rattle.theory.specs.Adversaries.{Adversary, Allowed}
 use Rattle.theory.specs.Tallies.{tally, next-tally, Sure}
 use Rattle.theory.specs.Rounds.{rounds}
 use Rattle.theory.specs.Mixes.{whole, greater, lesser}
-use Rattle.theory.specs.WithoutSteps.{Positive, Never, Certain, all-marks, some-marks, unmarked, Extremal, over-none, at-most-none, at-least-whole, Without-steps, marked-set}
+use Rattle.theory.specs.WithoutSteps.{Marks-decide, Marks-settled, Positive, Never, Certain, all-marks, some-marks, unmarked, Extremal, over-none, at-most-none, at-least-whole, Without-steps, marked-set}
 use Rattle.theory.specs.Formulas.{PathFormula, PathHolds, probability, until-within, until, extremal, Under, Comparison, below, at-most, above, at-least, Formula, truth, label, negation, conjunction, next, Fits, SetOf, Holds, has-label}
 use Rattle.theory.specs.Verdicts.{fits}
 use Rattle.std.specs.declared.option.Option.{Option}
@@ -120,6 +120,13 @@ module _ (m : Mdp) (l : Lawful m) (s : ℕ) (p : s < m .states) where
   without-steps-same over-none left left′ right right′ f f′ g g′ = positive-more left left′ right right′ f g
   without-steps-same at-most-none left left′ right right′ f f′ g g′ = never-less left left′ right right′ f′ g′
   without-steps-same at-least-whole left left′ right right′ f f′ g g′ = certain-more left left′ right right′ f g
+
+-- the marks decide
+pub marks-decide : Marks-decide
+marks-decide left right m l = (
+  record { all-settled = all-settled left right m l; some-settled = some-settled left right m l; unmarked-settled = unmarked-settled left right m l },
+  λ o s p. marked-iff m l s p o left right,
+)
 
 -- the set of an until without steps, by the bound that it stands under
 abbrev pub under-set : Option Extremal → (ℕ → Bool) → (ℕ → Bool) → Mdp → ℕ → Bool

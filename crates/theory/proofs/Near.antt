@@ -13,15 +13,17 @@ use Rattle.theory.specs.Rounds.{rounds}
 use Rattle.theory.specs.Mixes.{whole, mix-down, mix-up, greater, lesser}
 use Rattle.theory.specs.Ends.{Close, start, lower, upper}
 use Rattle.theory.specs.WithoutSteps.{Extremal, over-none, at-most-none, at-least-whole}
-use Rattle.theory.specs.Formulas.{probability, until-within, until, extremal, Under, Comparison, below, at-most, above, at-least, Formula, next, SetOf, Holds}
-use Rattle.theory.specs.Verdicts.{extremal-verdicts, VerdictSets, next-verdicts, until-within-verdicts, verdicts}
-use Rattle.theory.specs.Distances.{Harder, Extreme, Within-units, Decided, Undecided}
+use Rattle.theory.specs.Formulas.{One-set, probability, until-within, until, extremal, Under, Comparison, below, at-most, above, at-least, Formula, next, SetOf, Holds}
+use Rattle.theory.specs.Verdicts.{asked, easier-end, until-verdicts, extremal-verdicts, VerdictSets, next-verdicts, until-within-verdicts, verdicts}
+use Rattle.theory.specs.Distances.{Until-near, Next-near, Without-steps-decided, Queries-correct, Harder, Extreme, Within-units, Decided, Undecided}
+use Rattle.std.specs.declared.option.Option.{Option}
+use Rattle.std.specs.declared.option.Option.the-variants.{Some, None}
 use Rattle.theory.proofs.Lists.{true-not-false, which}
 use Rattle.theory.proofs.RuleLaws.{up-greater, up-lesser}
-use Rattle.theory.proofs.Ends.{best-close, worst-close, greater-close, lesser-close, rounds-close}
+use Rattle.theory.proofs.Ends.{best-some, worst-some, best-close, worst-close, greater-close, lesser-close, rounds-close}
 use Rattle.theory.proofs.Alike.{held-alike, next-alike, marked-alike}
 use Rattle.theory.proofs.Meaning.{decided, extreme, extreme-next, extreme-bound, extreme-is, extreme-next-bound, extreme-next-is}
-use Rattle.theory.proofs.Judge.{Among, sound, among, best-yes, best-no, worst-yes, worst-no, next-best-yes, next-best-no, next-worst-yes, next-worst-no}
+use Rattle.theory.proofs.Judge.{end-fails, until-within-correct, Among, sound, among, best-yes, best-no, worst-yes, worst-no, next-best-yes, next-best-no, next-worst-yes, next-worst-no}
 
 -- one set
 pub same-set : (m : Mdp) (P : ℕ → Type 0) (f g : ℕ → Bool) → SetOf m P f → SetOf m P g → (s : ℕ) → s < m .states → f s ≡ g s
@@ -123,42 +125,63 @@ formula-next-near m l c b f x s p u set i n e =
 
 -- there is a value
 pub within-value : (m : Mdp) → Lawful m → (s : ℕ) → s < m .states → (c : Comparison) (left right : ℕ → Bool) (k : ℕ) →
-    (n : ℕ) × Extreme c m (λ σ. tally left right k m σ s) n
-within-value m l s p c left right k = (extreme c left right k m s, record { attained = extreme-is m l s p c left right k; kept = go c })
-  where
-    go : (c : Comparison) (σ : Adversary) → Allowed m σ → Harder c (extreme c left right k m s) (tally left right k m σ s)
-    go below = extreme-bound m l s p below left right k
-    go at-most = extreme-bound m l s p at-most left right k
-    go above = extreme-bound m l s p above left right k
-    go at-least = extreme-bound m l s p at-least left right k
+    Extreme c m (λ σ. tally left right k m σ s) (extreme c left right k m s)
+within-value m l s p c left right k = record { attained = extreme-is m l s p c left right k; kept = extreme-bound m l s p c left right k }
 
+-- and for next
 pub next-value : (m : Mdp) → Lawful m → (s : ℕ) → s < m .states → (c : Comparison) (set : ℕ → Bool) →
-    (n : ℕ) × Extreme c m (λ σ. next-tally set m σ s) n
-next-value m l s p c set = (extreme-next c set m s, record { attained = extreme-next-is m l s p c set; kept = go c })
-  where
-    go : (c : Comparison) (σ : Adversary) → Allowed m σ → Harder c (extreme-next c set m s) (next-tally set m σ s)
-    go below = extreme-next-bound m l s p below set
-    go at-most = extreme-next-bound m l s p at-most set
-    go above = extreme-next-bound m l s p above set
-    go at-least = extreme-next-bound m l s p at-least set
+    Extreme c m (λ σ. next-tally set m σ s) (extreme-next c set m s)
+next-value m l s p c set = record { attained = extreme-next-is m l s p c set; kept = extreme-next-bound m l s p c set }
+
+-- an undecided until with steps over decided parts: its value and where that lies
+pub until-near : Until-near
+until-near m l c b k f g x y s p u left right i j =
+    let e = within-value m l s p c left right k in (extreme c left right k m s, e, formula-near m l c b k f g x y s p u left right i j (extreme c left right k m s) e)
+
+-- the same of a next
+pub next-is-near : Next-near
+next-is-near m l c b f x s p u set i =
+    let e = next-value m l s p c set in (extreme-next c set m s, e, formula-next-near m l c b f x s p u set i (extreme-next c set m s) e)
 
 -- an until without steps over decided parts is decided
-pub extremal-decided : (m : Mdp) → Lawful m → (o : Extremal) (v w : VerdictSets) → Decided m v → Decided m w → Decided m (extremal-verdicts o m v w)
-extremal-decided m l over-none v w x y s p = marked-alike m l s p over-none _ _ _ _ x y
-extremal-decided m l at-most-none v w x y s p = sym (marked-alike m l s p at-most-none _ _ _ _ x y)
-extremal-decided m l at-least-whole v w x y s p = marked-alike m l s p at-least-whole _ _ _ _ x y
+pub extremal-decided : (m : Mdp) → Lawful m → (o : Option Extremal) (v w : VerdictSets) → Decided m v → Decided m w → Decided m (until-verdicts o m v w)
+extremal-decided m l None v w x y s p = refl
+extremal-decided m l (Some over-none) v w x y s p = marked-alike m l s p over-none _ _ _ _ x y
+extremal-decided m l (Some at-most-none) v w x y s p = sym (marked-alike m l s p at-most-none _ _ _ _ x y)
+extremal-decided m l (Some at-least-whole) v w x y s p = marked-alike m l s p at-least-whole _ _ _ _ x y
 
--- a verdict of a trial: marks are decided
-abbrev pub marks-verdicts : (ℕ → Bool) → VerdictSets
-marks-verdicts set = record { sure = set; possible = set }
+-- so of formulas
+pub without-steps-decided : Without-steps-decided
+without-steps-decided m l c b f g x y = extremal-decided m l (extremal c b) (verdicts m f) (verdicts m g) x y
 
-pub verdict-near : (m : Mdp) → Lawful m → (c : Comparison) (b k : ℕ) (left right : ℕ → Bool) (s : ℕ) → s < m .states →
-    Undecided (until-within-verdicts c b k m (marks-verdicts left) (marks-verdicts right)) s → (n : ℕ) → Extreme c m (λ σ. tally left right k m σ s) n →
-    Within-units k b (m .denominator ^ k) n
-verdict-near m l c b k left right s p u n e =
-    within-near m l s p (marks-verdicts left) (marks-verdicts right) (λ t q. refl) (λ t q. refl) k left right
-    (record { low = λ t q e. e; high = λ t q e. e }) (record { low = λ t q e. e; high = λ t q e. e }) b n c u e
+-- sets that are known are decided
+abbrev known : (ℕ → Bool) → VerdictSets
+known set = record { sure = set; possible = set }
 
--- what is sure is possible
-pub sure-possible : (m : Mdp) → Lawful m → (f : Formula) (s : ℕ) → s < m .states → verdicts m f .sure s ≡ true → verdicts m f .possible s ≡ true
-sure-possible m l f s p e = let r = sound m l f s p in r .holds-possible (r .yes-holds e)
+known-among : (m : Mdp) (set : ℕ → Bool) → Among m (known set) set
+known-among m set = record { low = λ t q e. e; high = λ t q e. e }
+
+-- the end that some adversary does not lie beyond, for every comparison
+query-some : (c : Comparison) (k : ℕ) (left right : ℕ → Bool) (m : Mdp) → Lawful m → (s : ℕ) → s < m .states →
+    (σ : Adversary) × Allowed m σ × Harder c (tally left right k m σ s * whole)
+    (easier-end c (lower (asked c) left right k m s) (upper (asked c) left right k m s) * m .denominator ^ k)
+query-some below k left right m l s p = best-some left right m l k s p
+query-some at-most k left right m l s p = best-some left right m l k s p
+query-some above k left right m l s p = worst-some left right m l k s p
+query-some at-least k left right m l s p = worst-some left right m l k s p
+
+-- what the verdicts of a query tell
+pub queries-correct : Queries-correct
+queries-correct c b k left right m l s p = record {
+  yes-holds = until-within-correct m l s p (known left) (known right) left right (known-among m left) (known-among m right) k c b .yes-holds;
+  no-fails = end-fails m l s p (λ σ. tally left right k m σ s) b k _ c (query-some c k left right m l s p);
+  undecided-near = λ u. let e = within-value m l s p c left right k in (
+    extreme c left right k m s,
+    e,
+    within-near m l s p (known left) (known right) (λ t q. refl) (λ t q. refl) k left right (known-among m left) (known-among m right) b (extreme c left right k m s) c u e,
+  );
+}
+
+-- every formula has exactly one set
+pub every-set : One-set
+every-set m l f = one-set m l f

@@ -9,9 +9,9 @@ use native.Mathlib.Omega.{arith}
 use lib.ListN.{length, getD}
 use Rattle.model.specs.Mdp.{Mdp, Row, Each, Lawful, LawfulRow, Ascends, total, row}
 use Rattle.model.specs.declared.branch.Branch.{Branch}
-use Rattle.theory.specs.Adversaries.{Adversary, Allowed, chosen}
+use Rattle.theory.specs.Adversaries.{An-adversary-exists, Adversary, Allowed, chosen}
 use Rattle.theory.specs.Rules.{LawfulMix, RuleLaws, total-weight, valued}
-use Rattle.theory.specs.Rounds.{most, most-of, mixed, value, round, rounds}
+use Rattle.theory.specs.Rounds.{Optimum, most, most-of, mixed, value, round, rounds}
 use Rattle.theory.proofs.Lists.{each-at, length-map, getD-map, not-true, true-not-false}
 
 -- every target of a row lies below n
@@ -206,3 +206,11 @@ module _ {V : Type 0} (at-least-as-good : V → V → Bool) (mix : ℕ → List 
   pub no-adversary : (m : Mdp) → Lawful m → (v : ℕ → V) (k s : ℕ) → s < m .states → (σ : Adversary) → Allowed m σ →
       at-least-as-good (rounds at-least-as-good mix k m v s) (value mix k m v σ [] s) ≡ true
   no-adversary m l v k s p σ a = none-better m l v σ a k [] s p
+
+  -- the two together
+  pub rounds-optimal : (m : Mdp) → Lawful m → (v : ℕ → V) (k s : ℕ) → s < m .states → Optimum at-least-as-good mix m v k s (rounds at-least-as-good mix k m v s)
+  rounds-optimal m l v k s p = record { attained = some-adversary m l v k s p; none-better = no-adversary m l v k s p }
+
+-- the adversary that always names the first choice is allowed
+pub first-allowed : An-adversary-exists
+first-allowed m l = (λ path. 0, λ h s p. l .some-choice s p)

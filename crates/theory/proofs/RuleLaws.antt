@@ -10,7 +10,7 @@ use native.Mathlib.Omega.{arith}
 use lib.Dec.{leb}
 use borrow.Author.Tests.{leb-true, leb-false, le-leb}
 use Rattle.theory.specs.Rules.{RuleLaws, total-weight}
-use Rattle.theory.specs.Mixes.{sum-of, mix-down, mix-up, mix-marks, greater, lesser, yes-first, no-first}
+use Rattle.theory.specs.Mixes.{Rules-lawful, sum-of, mix-down, mix-up, mix-marks, greater, lesser, yes-first, no-first}
 
 pub sum-better : (before after : List (ℕ × ℕ)) (w x y : ℕ) → y ≤ x → sum-of (before ++ ((w, y) ∷ after)) ≤ sum-of (before ++ ((w, x) ∷ after))
 sum-better [] after w x y h = let k = mul-le-mul-left w h in omega arith
@@ -124,4 +124,15 @@ marks-lesser = record {
   antisymmetric = λ x y p q. marks-greater .antisymmetric x y (sym (flip y x) ∙ q) (sym (flip x y) ∙ p);
   complete = λ x y. elim (marks-greater .complete x y) [ inl p ↦ inr (flip y x ∙ p) | inr p ↦ inl (flip x y ∙ p) ];
   monotone = λ d before after w x y e p. flip (mix-marks d (before ++ ((w, x) ∷ after))) (mix-marks d (before ++ ((w, y) ∷ after))) ∙ marks-mono d before after w y x (sym (flip x y) ∙ p);
+}
+
+-- the six together
+pub rules-lawful : Rules-lawful
+rules-lawful = record {
+  down-greater = down-greater;
+  down-lesser = down-lesser;
+  up-greater = up-greater;
+  up-lesser = up-lesser;
+  marks-yes = marks-greater;
+  marks-no = marks-lesser;
 }

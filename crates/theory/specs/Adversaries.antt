@@ -3,7 +3,7 @@
 use mathlib.Core.List.{List, _∷_}
 use Prim.Native.Nat.{ℕ, _<_}
 use lib.ListN.{length}
-use Rattle.model.specs.Mdp.{Mdp, Row, row}
+use Rattle.model.specs.Mdp.{Mdp, Row, Lawful, row}
 
 -- an adversary names, for every path, a choice of the path's last state; it may use all that the path tells
 abbrev pub Adversary : Type 0
@@ -17,6 +17,6 @@ Allowed m σ = (h : List ℕ) (s : ℕ) → s < m .states → σ (s ∷ h) < len
 abbrev pub chosen : Mdp → Adversary → List ℕ → ℕ → Row
 chosen m σ h s = row m s (σ (s ∷ h))
 
--- an allowed adversary exists
-abbrev pub An-adversary-exists : Mdp → Type 0
-An-adversary-exists m = (σ : Adversary) × Allowed m σ
+-- the first theorem: a lawful model has an allowed adversary, so that what is said of all of them is not said of none
+abbrev pub An-adversary-exists : Type 0
+An-adversary-exists = (m : Mdp) → Lawful m → (σ : Adversary) × Allowed m σ

@@ -6,8 +6,9 @@ use Rattle.model.specs.Mdp.{Mdp, Lawful}
 use Rattle.theory.specs.Adversaries.{Adversary, Allowed}
 use Rattle.theory.specs.Tallies.{tally, next-tally}
 use Rattle.theory.specs.Mixes.{whole}
-use Rattle.theory.specs.Formulas.{Comparison, below, at-most, above, at-least, Formula, probability, next, until-within, SetOf, Holds}
-use Rattle.theory.specs.Verdicts.{VerdictSets, verdicts}
+use Rattle.theory.specs.Ends.{lower, upper}
+use Rattle.theory.specs.Formulas.{Comparison, below, at-most, above, at-least, Formula, probability, next, until-within, until, Fits, SetOf, Holds}
+use Rattle.theory.specs.Verdicts.{VerdictSets, asked, read-off, verdicts}
 
 -- whatever bound x fits, y fits too
 abbrev pub Harder : Comparison → ℕ → ℕ → Type 0
@@ -48,3 +49,22 @@ Next-near = (m : Mdp) → Lawful m → (c : Comparison) (b : ℕ) (f : Formula) 
     (s : ℕ) → s < m .states → Undecided (verdicts m (probability c b (next f))) s →
     (set : ℕ → Bool) → SetOf m (Holds m f) set →
     (x : ℕ) × Extreme c m (λ σ. next-tally set m σ s) x × Within-units 1 b (m .denominator ^ 1) x
+
+-- an until without steps over decided parts is decided
+abbrev pub Without-steps-decided : Type 0
+Without-steps-decided = (m : Mdp) → Lawful m → (c : Comparison) (b : ℕ) (f g : Formula) → Decided m (verdicts m f) → Decided m (verdicts m g) →
+    Decided m (verdicts m (probability c b (until f g)))
+
+-- the verdicts of one query with the sets left and right, read off its own ends after k rounds
+abbrev pub query-verdicts : Comparison → ℕ → ℕ → (ℕ → Bool) → (ℕ → Bool) → Mdp → VerdictSets
+query-verdicts c b k left right m = read-off c b (lower (asked c) left right k m) (upper (asked c) left right k m)
+
+-- what such a verdict at s tells: a yes holds of every adversary, a no fails for some adversary, and an undecided state's value lies within k units of the bound
+pub record Query-verdict (c : Comparison) (b k : ℕ) (left right : ℕ → Bool) (m : Mdp) (s : ℕ) : Type 0 where
+  pub yes-holds : query-verdicts c b k left right m .sure s ≡ true → (σ : Adversary) → Allowed m σ → Fits c (tally left right k m σ s * whole) (b * m .denominator ^ k)
+  pub no-fails : query-verdicts c b k left right m .possible s ≡ false → (σ : Adversary) × Allowed m σ × ¬ (Fits c (tally left right k m σ s * whole) (b * m .denominator ^ k))
+  pub undecided-near : Undecided (query-verdicts c b k left right m) s → (x : ℕ) × Extreme c m (λ σ. tally left right k m σ s) x × Within-units k b (m .denominator ^ k) x
+
+-- the theorem of a query's verdicts
+abbrev pub Queries-correct : Type 0
+Queries-correct = (c : Comparison) (b k : ℕ) (left right : ℕ → Bool) (m : Mdp) → Lawful m → (s : ℕ) → s < m .states → Query-verdict c b k left right m s

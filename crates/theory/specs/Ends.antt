@@ -5,7 +5,7 @@ use Prim.Native.Nat.{ℕ, _+_, _*_, _^_, _≤_, _<_}
 use lib.Dec.{ltb}
 use Rattle.model.specs.Mdp.{Mdp, Row, Lawful, to}
 use Rattle.theory.specs.Adversaries.{Adversary, Allowed}
-use Rattle.theory.specs.Tallies.{tally}
+use Rattle.theory.specs.Tallies.{tally, next-tally}
 use Rattle.theory.specs.Rounds.{rounds}
 use Rattle.theory.specs.Mixes.{whole, mix-down, mix-up, greater, lesser}
 
@@ -70,6 +70,22 @@ pub record Worst-ends (left right : ℕ → Bool) (m : Mdp) (k s : ℕ) : Type 0
   pub none-below : (σ : Adversary) → Allowed m σ → lower lesser left right k m s * m .denominator ^ k ≤ tally left right k m σ s * whole
   pub some-reaches : (σ : Adversary) × Allowed m σ × (tally left right k m σ s * whole ≤ upper lesser left right k m s * m .denominator ^ k)
   pub gap : Close k (lower lesser left right k m s) (upper lesser left right k m s)
+
+-- the ends of a next for the best, after the one round that it has
+pub record Best-next-ends (set : ℕ → Bool) (m : Mdp) (s : ℕ) : Type 0 where
+  pub none-above : (σ : Adversary) → Allowed m σ → next-tally set m σ s * whole ≤ next-upper greater set m s * m .denominator ^ 1
+  pub some-reaches : (σ : Adversary) × Allowed m σ × (next-lower greater set m s * m .denominator ^ 1 ≤ next-tally set m σ s * whole)
+  pub gap : Close 1 (next-lower greater set m s) (next-upper greater set m s)
+
+-- the ends of a next for the worst
+pub record Worst-next-ends (set : ℕ → Bool) (m : Mdp) (s : ℕ) : Type 0 where
+  pub none-below : (σ : Adversary) → Allowed m σ → next-lower lesser set m s * m .denominator ^ 1 ≤ next-tally set m σ s * whole
+  pub some-reaches : (σ : Adversary) × Allowed m σ × (next-tally set m σ s * whole ≤ next-upper lesser set m s * m .denominator ^ 1)
+  pub gap : Close 1 (next-lower lesser set m s) (next-upper lesser set m s)
+
+-- the theorem of a next's ends
+abbrev pub Next-ends-bound : Type 0
+Next-ends-bound = (set : ℕ → Bool) (m : Mdp) → Lawful m → (s : ℕ) → s < m .states → Best-next-ends set m s × Worst-next-ends set m s
 
 -- the theorem of the ends, of the original model, for both
 abbrev pub Ends-bound : Type 0

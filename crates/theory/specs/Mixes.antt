@@ -3,6 +3,7 @@ use mathlib.Core.List.{List, [], _∷_}
 use mathlib.Core.Bool.{Bool, false, not, _||_}
 use Prim.Native.Nat.{ℕ, _+_, _*_, _/_, _-_}
 use lib.Dec.{leb}
+use Rattle.theory.specs.Rules.{RuleLaws}
 
 -- a value in parts is a number of units; this many make the whole
 abbrev pub whole : ℕ
@@ -41,3 +42,12 @@ yes-first x y = x || not y
 -- no is preferred
 abbrev pub no-first : Bool → Bool → Bool
 no-first x y = not x || y
+
+-- the theorem of these rules: each keeps the laws, with either preference
+pub record Rules-lawful : Type 0 where
+  pub down-greater : RuleLaws greater mix-down
+  pub down-lesser : RuleLaws lesser mix-down
+  pub up-greater : RuleLaws greater mix-up
+  pub up-lesser : RuleLaws lesser mix-up
+  pub marks-yes : RuleLaws yes-first mix-marks
+  pub marks-no : RuleLaws no-first mix-marks

@@ -43,7 +43,7 @@ module _ {V : Type 0} (at-least-as-good : V → V → Bool) (mix : ℕ → List 
     pub attained : (σ : Adversary) × Allowed m σ × (value mix k m v σ [] s ≡ x)
     pub none-better : (σ : Adversary) → Allowed m σ → at-least-as-good x (value mix k m v σ [] s) ≡ true
 
--- the theorem of rounds: for every lawful rule and every lawful model, k rounds give each state the optimum
-abbrev pub Rounds-optimal : Type 1
-Rounds-optimal = (V : Type 0) (at-least-as-good : V → V → Bool) (mix : ℕ → List (ℕ × V) → V) → RuleLaws at-least-as-good mix →
+-- the theorem of rounds: for every lawful rule over a type of values and every lawful model, k rounds give each state the optimum
+abbrev pub Rounds-optimal : Type 0 → Type 0
+Rounds-optimal V = (at-least-as-good : V → V → Bool) (mix : ℕ → List (ℕ × V) → V) → RuleLaws at-least-as-good mix →
     (m : Mdp) → Lawful m → (v : ℕ → V) (k s : ℕ) → s < m .states → Optimum at-least-as-good mix m v k s (rounds at-least-as-good mix k m v s)

@@ -1,9 +1,3 @@
-// The theory.
-ghost use mathlib.Core.Path.{_≡_};
-ghost use Prim.Native.Nat.{ℕ, _+_, _≤_, _<_};
-
-pub fn one() -> u8
-    ensures { λ r. ⌜ r ≡ 1 ⌝ }
-{
-    1
-}
+// The theory of the checker: what adversaries, tallies, value rules, rounds, ends, formulas and verdicts are, and the theorems on them.
+// Each function stands for one theorem: its contract is the statement, and it does nothing. It may use the model crate.
+pub mod theorems;

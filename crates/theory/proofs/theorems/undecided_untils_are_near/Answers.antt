@@ -1,0 +1,5 @@
+use Rattle.theory.proofs.Near.{until-near}
+use Rattle.theory.proofs.theorems.undecided_untils_are_near.Needs as need
+
+pub returns : need.returns
+returns c = until-near
