@@ -2,6 +2,7 @@ pub mod Lists
 pub mod Rounds
 pub mod RuleLaws
 pub mod Tallies
+pub mod Runs
 pub mod Holding
 pub mod Ends
 pub mod WithoutSteps

@@ -29,7 +29,7 @@ ascends-weights n low [] a = tt
 ascends-weights n low (b ∷ bs) a = (a .2, ascends-weights n (b .target + 1) bs (a .3))
 
 -- what holds of each element of two lists holds of each of both
-each-append : {A : Type 0} (P : A → Type 0) (xs ys : List A) → Each P xs → Each P ys → Each P (xs ++ ys)
+pub each-append : {A : Type 0} (P : A → Type 0) (xs ys : List A) → Each P xs → Each P ys → Each P (xs ++ ys)
 each-append P [] ys x y = y
 each-append P (z ∷ zs) ys x y = (x .0, each-append P zs ys (x .1) y)
 

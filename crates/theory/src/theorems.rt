@@ -1,4 +1,5 @@
 ghost use Rattle.theory.specs.Adversaries.{An-adversary-exists};
+ghost use Rattle.theory.specs.Tallies.{Runs-correct};
 ghost use Rattle.theory.specs.Rounds.{Rounds-optimal};
 ghost use Rattle.theory.specs.Mixes.{Rules-lawful};
 ghost use Rattle.theory.specs.Ends.{Ends-bound, Next-ends-bound};
@@ -10,6 +11,13 @@ ghost use Rattle.theory.specs.Distances.{Until-near, Next-near, Without-steps-
 // a lawful model has an allowed adversary
 pub fn an_adversary_exists() -> u8
     ensures { λ _. ⌜ An-adversary-exists ⌝ }
+{
+    0
+}
+
+// the runs are the paths that follow the adversary, each exactly once, and their weights sum to D ^ k
+pub fn runs_are_paths() -> u8
+    ensures { λ _. ⌜ Runs-correct ⌝ }
 {
     0
 }
