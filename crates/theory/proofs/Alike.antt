@@ -7,6 +7,7 @@ use lib.Dec.{ltb}
 use borrow.Author.Tests.{ltb-true}
 use Prim.Native.Nat.{ℕ, _<_}
 use Rattle.model.specs.Mdp.{Mdp, Row, Lawful}
+use Rattle.theory.proofs.Found.{extremal-verdicts}
 use Rattle.theory.proofs.Lists.{which}
 use Rattle.theory.specs.Rules.{RuleLaws}
 use Rattle.theory.specs.Rounds.{rounds}
@@ -14,7 +15,7 @@ use Rattle.theory.specs.Mixes.{mix-down, mix-up, greater, lesser}
 use Rattle.theory.specs.Ends.{hold, held, stops, back, start}
 use Rattle.theory.specs.WithoutSteps.{Extremal, over-none, at-most-none, at-least-whole, marked-set}
 use Rattle.theory.specs.Formulas.{Comparison, below, at-most, above, at-least}
-use Rattle.theory.specs.Verdicts.{fits, VerdictSets, next-verdicts, until-within-verdicts, extremal-verdicts}
+use Rattle.theory.specs.Verdicts.{fits, VerdictSets, next-verdicts, until-within-verdicts, Alike, SameVerdicts}
 use Rattle.theory.proofs.RuleLaws.{down-greater, down-lesser, up-greater, up-lesser}
 use Rattle.theory.proofs.Holding.{hold-lawful}
 use Rattle.theory.proofs.Bridge.{rounds-same}
@@ -32,13 +33,7 @@ hold-same m f g h =
       | inr e ↦ rw e
     ]
 
-abbrev pub Alike : Mdp → (ℕ → Bool) → (ℕ → Bool) → Type 0
-Alike m f g = (t : ℕ) → t < m .states → f t ≡ g t
-
-pub record SameVerdicts (m : Mdp) (v w : VerdictSets) : Type 0 where
-  pub sures : Alike m (v .sure) (w .sure)
-  pub possibles : Alike m (v .possible) (w .possible)
-
+-- a Bool that is true where another is, and the other way round
 bools : (a b : Bool) → (a ≡ true → b ≡ true) → (b ≡ true → a ≡ true) → a ≡ b
 bools true b f g = sym (f refl)
 bools false true f g = g refl

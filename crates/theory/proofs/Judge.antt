@@ -13,10 +13,11 @@ use Rattle.theory.specs.Mixes.{whole, greater, lesser, mix-down, mix-up}
 use Rattle.theory.specs.Ends.{start, lower, upper}
 use Rattle.theory.specs.WithoutSteps.{Extremal, over-none, at-most-none, at-least-whole, Without-steps, marked-set}
 use Rattle.theory.specs.Formulas.{PathFormula, PathHolds, probability, until-within, until, extremal, Under, Comparison, below, at-most, above, at-least, Formula, truth, label, negation, conjunction, next, Fits, SetOf, Holds}
-use Rattle.theory.specs.Verdicts.{until-verdicts, path-verdicts, Correct, fits, VerdictSets, next-verdicts, until-within-verdicts, extremal-verdicts, verdicts}
+use Rattle.theory.specs.Verdicts.{Correct, fits, VerdictSets, next-verdicts, until-within-verdicts}
 use Rattle.std.specs.declared.option.Option.{Option}
 use Rattle.std.specs.declared.option.Option.the-variants.{Some, None}
 use Rattle.theory.specs.Distances.{Harder}
+use Rattle.theory.proofs.Found.{until-verdicts, path-verdicts, extremal-verdicts, verdicts}
 use Rattle.theory.proofs.Lists.{true-not-false, which}
 use Rattle.theory.proofs.Ends.{best-none-above, best-some, worst-none-below, worst-some}
 use Rattle.theory.proofs.Between.{Subset, tally-below, next-below, next-none-above, next-none-below, next-best-some, next-worst-some}

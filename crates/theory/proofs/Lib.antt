@@ -13,7 +13,9 @@ pub mod Exact
 pub mod Between
 pub mod Compare
 pub mod Meaning
+pub mod Found
 pub mod Judge
 pub mod Bridge
 pub mod Near
 pub mod Alike
+pub mod Judged

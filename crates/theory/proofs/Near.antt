@@ -14,10 +14,11 @@ use Rattle.theory.specs.Mixes.{whole, mix-down, mix-up, greater, lesser}
 use Rattle.theory.specs.Ends.{Close, start, lower, upper}
 use Rattle.theory.specs.WithoutSteps.{Extremal, over-none, at-most-none, at-least-whole}
 use Rattle.theory.specs.Formulas.{One-set, probability, until-within, until, extremal, Under, Comparison, below, at-most, above, at-least, Formula, next, SetOf, Holds}
-use Rattle.theory.specs.Verdicts.{asked, easier-end, until-verdicts, extremal-verdicts, VerdictSets, next-verdicts, until-within-verdicts, verdicts}
-use Rattle.theory.specs.Distances.{Until-near, Next-near, Without-steps-decided, Queries-correct, Harder, Extreme, Within-units, Decided, Undecided}
+use Rattle.theory.specs.Verdicts.{asked, easier-end, VerdictSets, next-verdicts, until-within-verdicts, known}
+use Rattle.theory.specs.Distances.{Queries-correct, Harder, Extreme, Within-units, Decided, Undecided}
 use Rattle.std.specs.declared.option.Option.{Option}
 use Rattle.std.specs.declared.option.Option.the-variants.{Some, None}
+use Rattle.theory.proofs.Found.{until-verdicts, extremal-verdicts, verdicts}
 use Rattle.theory.proofs.Lists.{true-not-false, which}
 use Rattle.theory.proofs.RuleLaws.{up-greater, up-lesser}
 use Rattle.theory.proofs.Ends.{best-some, worst-some, best-close, worst-close, greater-close, lesser-close, rounds-close}
@@ -133,16 +134,6 @@ pub next-value : (m : Mdp) → Lawful m → (s : ℕ) → s < m .states → (c :
     Extreme c m (λ σ. next-tally set m σ s) (extreme-next c set m s)
 next-value m l s p c set = record { attained = extreme-next-is m l s p c set; kept = extreme-next-bound m l s p c set }
 
--- an undecided until with steps over decided parts: its value and where that lies
-pub until-near : Until-near
-until-near m l c b k f g x y s p u left right i j =
-    let e = within-value m l s p c left right k in (extreme c left right k m s, e, formula-near m l c b k f g x y s p u left right i j (extreme c left right k m s) e)
-
--- the same of a next
-pub next-is-near : Next-near
-next-is-near m l c b f x s p u set i =
-    let e = next-value m l s p c set in (extreme-next c set m s, e, formula-next-near m l c b f x s p u set i (extreme-next c set m s) e)
-
 -- an until without steps over decided parts is decided
 pub extremal-decided : (m : Mdp) → Lawful m → (o : Option Extremal) (v w : VerdictSets) → Decided m v → Decided m w → Decided m (until-verdicts o m v w)
 extremal-decided m l None v w x y s p = refl
@@ -150,14 +141,7 @@ extremal-decided m l (Some over-none) v w x y s p = marked-alike m l s p over-no
 extremal-decided m l (Some at-most-none) v w x y s p = sym (marked-alike m l s p at-most-none _ _ _ _ x y)
 extremal-decided m l (Some at-least-whole) v w x y s p = marked-alike m l s p at-least-whole _ _ _ _ x y
 
--- so of formulas
-pub without-steps-decided : Without-steps-decided
-without-steps-decided m l c b f g x y = extremal-decided m l (extremal c b) (verdicts m f) (verdicts m g) x y
-
 -- sets that are known are decided
-abbrev known : (ℕ → Bool) → VerdictSets
-known set = record { sure = set; possible = set }
-
 known-among : (m : Mdp) (set : ℕ → Bool) → Among m (known set) set
 known-among m set = record { low = λ t q e. e; high = λ t q e. e }
 

@@ -8,7 +8,7 @@ use Rattle.theory.specs.Tallies.{tally, next-tally}
 use Rattle.theory.specs.Mixes.{whole}
 use Rattle.theory.specs.Ends.{lower, upper}
 use Rattle.theory.specs.Formulas.{Comparison, below, at-most, above, at-least, Formula, probability, next, until-within, until, Fits, SetOf, Holds}
-use Rattle.theory.specs.Verdicts.{VerdictSets, asked, read-off, verdicts}
+use Rattle.theory.specs.Verdicts.{VerdictSets, asked, read-off, Judged}
 
 -- whatever bound x fits, y fits too
 abbrev pub Harder : Comparison → ℕ → ℕ → Type 0
@@ -38,22 +38,24 @@ pub record Undecided (v : VerdictSets) (s : ℕ) : Type 0 where
 
 -- an undecided until with k steps over decided parts: the state has a value, and it lies within k units of the bound
 abbrev pub Until-near : Type 0
-Until-near = (m : Mdp) → Lawful m → (c : Comparison) (b k : ℕ) (f g : Formula) → Decided m (verdicts m f) → Decided m (verdicts m g) →
-    (s : ℕ) → s < m .states → Undecided (verdicts m (probability c b (until-within k f g))) s →
+Until-near = (m : Mdp) → Lawful m → (c : Comparison) (b k : ℕ) (f g : Formula) (v w u : VerdictSets) →
+    Judged m f v → Judged m g w → Judged m (probability c b (until-within k f g)) u → Decided m v → Decided m w →
+    (s : ℕ) → s < m .states → Undecided u s →
     (left right : ℕ → Bool) → SetOf m (Holds m f) left → SetOf m (Holds m g) right →
     (x : ℕ) × Extreme c m (λ σ. tally left right k m σ s) x × Within-units k b (m .denominator ^ k) x
 
 -- an undecided next over a decided part: the same within one unit
 abbrev pub Next-near : Type 0
-Next-near = (m : Mdp) → Lawful m → (c : Comparison) (b : ℕ) (f : Formula) → Decided m (verdicts m f) →
-    (s : ℕ) → s < m .states → Undecided (verdicts m (probability c b (next f))) s →
+Next-near = (m : Mdp) → Lawful m → (c : Comparison) (b : ℕ) (f : Formula) (v u : VerdictSets) →
+    Judged m f v → Judged m (probability c b (next f)) u → Decided m v →
+    (s : ℕ) → s < m .states → Undecided u s →
     (set : ℕ → Bool) → SetOf m (Holds m f) set →
     (x : ℕ) × Extreme c m (λ σ. next-tally set m σ s) x × Within-units 1 b (m .denominator ^ 1) x
 
 -- an until without steps over decided parts is decided
 abbrev pub Without-steps-decided : Type 0
-Without-steps-decided = (m : Mdp) → Lawful m → (c : Comparison) (b : ℕ) (f g : Formula) → Decided m (verdicts m f) → Decided m (verdicts m g) →
-    Decided m (verdicts m (probability c b (until f g)))
+Without-steps-decided = (m : Mdp) → Lawful m → (c : Comparison) (b : ℕ) (f g : Formula) (v w u : VerdictSets) →
+    Judged m f v → Judged m g w → Judged m (probability c b (until f g)) u → Decided m v → Decided m w → Decided m u
 
 -- the verdicts of one query with the sets left and right, read off its own ends after k rounds
 abbrev pub query-verdicts : Comparison → ℕ → ℕ → (ℕ → Bool) → (ℕ → Bool) → Mdp → VerdictSets

@@ -8,8 +8,8 @@ use Rattle.std.specs.declared.option.Option.the-variants.{Some, None}
 use Rattle.model.specs.Mdp.{Mdp, Lawful}
 use Rattle.theory.specs.Mixes.{greater, lesser}
 use Rattle.theory.specs.Ends.{lower, upper, next-lower, next-upper}
-use Rattle.theory.specs.WithoutSteps.{Extremal, over-none, at-most-none, at-least-whole, marked-set}
-use Rattle.theory.specs.Formulas.{Comparison, below, at-most, above, at-least, Formula, truth, label, negation, conjunction, probability, PathFormula, next, until-within, until, extremal, has-label, Holds}
+use Rattle.theory.specs.WithoutSteps.{Extremal, over-none, at-most-none, at-least-whole, Without-steps}
+use Rattle.theory.specs.Formulas.{Comparison, below, at-most, above, at-least, Formula, truth, label, negation, conjunction, probability, PathFormula, next, until-within, until, extremal, has-label, SetOf, Holds}
 
 -- the verdicts on all states: a sure state is a yes, a possible one that is not sure is undecided, any other is a no
 pub record VerdictSets : Type 0 where
@@ -59,30 +59,58 @@ next-verdicts c b m v = read-off c b (next-lower (asked c) (v .sure) m) (next-up
 abbrev pub until-within-verdicts : Comparison → ℕ → ℕ → Mdp → VerdictSets → VerdictSets → VerdictSets
 until-within-verdicts c b k m v w = read-off c b (lower (asked c) (v .sure) (w .sure) k m) (upper (asked c) (v .possible) (w .possible) k m)
 
--- until without steps: what the settled marks find on the sure states of the parts, and on the possible ones; larger sets help the first bound and the third, and hinder the second
-abbrev pub extremal-verdicts : Extremal → Mdp → VerdictSets → VerdictSets → VerdictSets
-extremal-verdicts over-none m v w = record { sure = marked-set over-none (v .sure) (w .sure) m; possible = marked-set over-none (v .possible) (w .possible) m }
-extremal-verdicts at-most-none m v w = record { sure = marked-set at-most-none (v .possible) (w .possible) m; possible = marked-set at-most-none (v .sure) (w .sure) m }
-extremal-verdicts at-least-whole m v w = record { sure = marked-set at-least-whole (v .sure) (w .sure) m; possible = marked-set at-least-whole (v .possible) (w .possible) m }
+-- two verdict sets are the same on the states of a model
+abbrev pub Alike : Mdp → (ℕ → Bool) → (ℕ → Bool) → Type 0
+Alike m f g = (s : ℕ) → s < m .states → f s ≡ g s
+
+-- both sets of two verdicts are
+pub record SameVerdicts (m : Mdp) (v w : VerdictSets) : Type 0 where
+  pub sures : Alike m (v .sure) (w .sure)
+  pub possibles : Alike m (v .possible) (w .possible)
+
+-- the verdicts where a set is known: none is undecided
+abbrev pub known : (ℕ → Bool) → VerdictSets
+known set = record { sure = set; possible = set }
+
+-- not: a yes is where the part is a no
+abbrev pub negated : VerdictSets → VerdictSets
+negated v = record { sure = λ s. not (v .possible s); possible = λ s. not (v .sure s) }
+
+-- and: state by state
+abbrev pub joined : VerdictSets → VerdictSets → VerdictSets
+joined v w = record { sure = λ s. v .sure s && w .sure s; possible = λ s. v .possible s && w .possible s }
+
+-- until without steps, over verdicts v and w on its parts: a yes is where it holds on the sets that make it hardest, a no where it fails on those that make it easiest; larger sets help the first bound and the third, and hinder the second
+abbrev pub ExtremalJudged : Extremal → Mdp → VerdictSets → VerdictSets → VerdictSets → Type 0
+ExtremalJudged over-none m v w u =
+    SetOf m (Without-steps over-none (v .sure) (w .sure) m) (u .sure) × SetOf m (Without-steps over-none (v .possible) (w .possible) m) (u .possible)
+ExtremalJudged at-most-none m v w u =
+    SetOf m (Without-steps at-most-none (v .possible) (w .possible) m) (u .sure) × SetOf m (Without-steps at-most-none (v .sure) (w .sure) m) (u .possible)
+ExtremalJudged at-least-whole m v w u =
+    SetOf m (Without-steps at-least-whole (v .sure) (w .sure) m) (u .sure) × SetOf m (Without-steps at-least-whole (v .possible) (w .possible) m) (u .possible)
 
 -- under any other bound it is a no everywhere
-abbrev pub until-verdicts : Option Extremal → Mdp → VerdictSets → VerdictSets → VerdictSets
-until-verdicts None m v w = record { sure = λ s. false; possible = λ s. false }
-until-verdicts (Some o) m v w = extremal-verdicts o m v w
+abbrev pub UntilJudged : Option Extremal → Mdp → VerdictSets → VerdictSets → VerdictSets → Type 0
+UntilJudged None m v w u = SameVerdicts m u (known (λ s. false))
+UntilJudged (Some o) m v w u = ExtremalJudged o m v w u
 
--- the verdicts on a formula, by its parts
+-- u are the verdicts on a formula, given by those on its parts
 abbrev mutual
-  pub verdicts : Mdp → Formula → VerdictSets
-  verdicts m truth = record { sure = λ s. true; possible = λ s. true }
-  verdicts m (label i) = record { sure = has-label m i; possible = has-label m i }
-  verdicts m (negation f) = record { sure = λ s. not (verdicts m f .possible s); possible = λ s. not (verdicts m f .sure s) }
-  verdicts m (conjunction f g) = record { sure = λ s. verdicts m f .sure s && verdicts m g .sure s; possible = λ s. verdicts m f .possible s && verdicts m g .possible s }
-  verdicts m (probability c b p) = path-verdicts m c b p
+  pub Judged : Mdp → Formula → VerdictSets → Type 0
+  Judged m truth u = SameVerdicts m u (known (λ s. true))
+  Judged m (label i) u = SameVerdicts m u (known (has-label m i))
+  Judged m (negation f) u = (v : VerdictSets) × Judged m f v × SameVerdicts m u (negated v)
+  Judged m (conjunction f g) u = (v w : VerdictSets) × Judged m f v × Judged m g w × SameVerdicts m u (joined v w)
+  Judged m (probability c b p) u = PathJudged m c b p u
 
-  pub path-verdicts : Mdp → Comparison → ℕ → PathFormula → VerdictSets
-  path-verdicts m c b (next f) = next-verdicts c b m (verdicts m f)
-  path-verdicts m c b (until-within k f g) = until-within-verdicts c b k m (verdicts m f) (verdicts m g)
-  path-verdicts m c b (until f g) = until-verdicts (extremal c b) m (verdicts m f) (verdicts m g)
+  pub PathJudged : Mdp → Comparison → ℕ → PathFormula → VerdictSets → Type 0
+  PathJudged m c b (next f) u = (v : VerdictSets) × Judged m f v × SameVerdicts m u (next-verdicts c b m v)
+  PathJudged m c b (until-within k f g) u = (v w : VerdictSets) × Judged m f v × Judged m g w × SameVerdicts m u (until-within-verdicts c b k m v w)
+  PathJudged m c b (until f g) u = (v w : VerdictSets) × Judged m f v × Judged m g w × UntilJudged (extremal c b) m v w u
+
+-- every formula has verdicts, and on the states only one
+abbrev pub One-verdict : Type 0
+One-verdict = (m : Mdp) → Lawful m → (f : Formula) → (v : VerdictSets) × Judged m f v × ((u : VerdictSets) → Judged m f u → SameVerdicts m u v)
 
 -- the verdict at s on a statement P of s is correct: a yes holds, and what holds is possible, so a no fails
 pub record Correct (v : VerdictSets) (P : Type 0) (s : ℕ) : Type 0 where
@@ -91,4 +119,4 @@ pub record Correct (v : VerdictSets) (P : Type 0) (s : ℕ) : Type 0 where
 
 -- the theorem of verdicts: they are correct for every formula
 abbrev pub Verdicts-correct : Type 0
-Verdicts-correct = (m : Mdp) → Lawful m → (f : Formula) (s : ℕ) → s < m .states → Correct (verdicts m f) (Holds m f s) s
+Verdicts-correct = (m : Mdp) → Lawful m → (f : Formula) (v : VerdictSets) → Judged m f v → (s : ℕ) → s < m .states → Correct v (Holds m f s) s

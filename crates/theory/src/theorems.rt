@@ -5,7 +5,7 @@ ghost use Rattle.theory.specs.Mixes.{Rules-lawful};
 ghost use Rattle.theory.specs.Ends.{Ends-bound, Next-ends-bound};
 ghost use Rattle.theory.specs.WithoutSteps.{Marks-decide};
 ghost use Rattle.theory.specs.Formulas.{One-set};
-ghost use Rattle.theory.specs.Verdicts.{Verdicts-correct};
+ghost use Rattle.theory.specs.Verdicts.{One-verdict, Verdicts-correct};
 ghost use Rattle.theory.specs.Distances.{Until-near, Next-near, Without-steps-decided, Queries-correct};
 
 // a lawful model has an allowed adversary
@@ -60,6 +60,13 @@ pub fn marks_decide_untils() -> u8
 // every formula has exactly one set of states
 pub fn formulas_have_one_set() -> u8
     ensures { λ _. ⌜ One-set ⌝ }
+{
+    0
+}
+
+// every formula has verdicts, and on the states only one
+pub fn formulas_have_one_verdict() -> u8
+    ensures { λ _. ⌜ One-verdict ⌝ }
 {
     0
 }

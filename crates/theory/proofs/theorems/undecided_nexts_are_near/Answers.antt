@@ -1,4 +1,4 @@
-use Rattle.theory.proofs.Near.{next-is-near}
+use Rattle.theory.proofs.Judged.{next-is-near}
 use Rattle.theory.proofs.theorems.undecided_nexts_are_near.Needs as need
 
 pub returns : need.returns

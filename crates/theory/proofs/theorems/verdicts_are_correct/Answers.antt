@@ -1,5 +1,5 @@
-use Rattle.theory.proofs.Judge.{sound}
+use Rattle.theory.proofs.Judged.{verdicts-correct}
 use Rattle.theory.proofs.theorems.verdicts_are_correct.Needs as need
 
 pub returns : need.returns
-returns c = sound
+returns c = verdicts-correct
