@@ -113,8 +113,8 @@ until-near m l c b k f g v w u i j h x y s p z left right q r =
       extreme c left right k m s,
       e,
       formula-near m l c b k f g (decided-same m v (verdicts m f) (only-found m l f v i) x) (decided-same m w (verdicts m g) (only-found m l g w j) y) s p
-      (undecided-same m u (verdicts m (probability c b (until-within k f g))) (only-found m l (probability c b (until-within k f g)) u h) s p z)
-      left right q r (extreme c left right k m s) e,
+          (undecided-same m u (verdicts m (probability c b (until-within k f g))) (only-found m l (probability c b (until-within k f g)) u h) s p z)
+          left right q r (extreme c left right k m s) e,
     )
 
 -- the same of a next
@@ -124,7 +124,7 @@ next-is-near m l c b f v u i h x s p z set q =
       extreme-next c set m s,
       e,
       formula-next-near m l c b f (decided-same m v (verdicts m f) (only-found m l f v i) x) s p
-      (undecided-same m u (verdicts m (probability c b (next f))) (only-found m l (probability c b (next f)) u h) s p z) set q (extreme-next c set m s) e,
+          (undecided-same m u (verdicts m (probability c b (next f))) (only-found m l (probability c b (next f)) u h) s p z) set q (extreme-next c set m s) e,
     )
 
 -- an until without steps over decided parts is decided
