@@ -9,8 +9,8 @@ use lib.Dec.{ltb, eqb}
 use lib.ListN.{length, getD, set, replicate}
 use Rattle.std.proofs.shelf.Lists.{getD-past, getD-set-same, getD-set-other}
 use Rattle.std.proofs.shelf.Tests.{cases-eq, eq-eqb, ne-eqb, lt-ltb, cond-true, cond-false, and-from, and-right}
-use Rattle.model.specs.Mdp.{Mdp, Row, row, to}
-use Rattle.layers.specs.Holds.{held, held-model, is-held, stay}
+use Rattle.model.specs.Mdp.{Mdp, Row, row, to, stay}
+use Rattle.layers.specs.Holds.{held, held-model, is-held}
 
 -- the model m with other choices
 abbrev with-choices : Mdp → (ℕ → List Row) → Mdp

@@ -4,11 +4,7 @@ use mathlib.Core.Bool.{Bool, false, cond, _&&_}
 use Prim.Native.Nat.{ℕ}
 use lib.Dec.{ltb, eqb}
 use lib.ListN.{getD}
-use Rattle.model.specs.Mdp.{Mdp, Row, to}
-
--- the one choice of a held state s: back to itself with the whole denominator d
-abbrev pub stay : ℕ → ℕ → List Row
-stay d s = (to s d ∷ []) ∷ []
+use Rattle.model.specs.Mdp.{Mdp, stay, hold}
 
 -- the model m with the state s held: s only stays, and the rest is as it was
 abbrev pub held : ℕ → Mdp → Mdp
@@ -20,4 +16,4 @@ is-held m flags s = ltb s (m .states) && getD flags s false
 
 -- the model m with every state held whose flag says so
 abbrev pub held-model : Mdp → List Bool → Mdp
-held-model m flags = record { states = m .states; denominator = m .denominator; labels = m .labels; choices = λ s. cond (is-held m flags s) (stay (m .denominator) s) (m .choices s) }
+held-model m flags = hold (λ s. getD flags s false) m

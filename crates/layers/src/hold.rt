@@ -1,9 +1,9 @@
 ghost use mathlib.Core.Path.{_≡_};
 ghost use mathlib.Core.Bool.{false};
-ghost use lib.ListN.{replicate};
+ghost use lib.ListN.{replicate, getD};
 ghost use Rattle.model.specs.Mdp.{to};
 ghost use Rattle.layers.specs.Holds.{held-model, is-held};
-ghost use Rattle.layers.specs.HoldLaws.{held-lawful};
+ghost use Rattle.model.specs.HoldLaws.{hold-lawful};
 ghost use Rattle.layers.specs.HoldAnswers.{Ran};
 use crate::fault::HoldFault;
 use model::branch::Branch;
@@ -66,7 +66,7 @@ impl<S: Source> Hold<S> {
 pub impl<S: Source> Source for Hold<S> as HoldSource {
     ghost model = { λ h. held-model (S·Source .model (h .below)) (h .held) };
 
-    ghost lawful = { λ h. held-lawful (S·Source .model (h .below)) (h .held) (S·Source .lawful (h .below)) };
+    ghost lawful = { λ h. hold-lawful (λ s. getD (h .held) s false) (S·Source .model (h .below)) (S·Source .lawful (h .below)) };
 
     fn states(&self) -> usize {
         self.below.states()

@@ -1,1 +1,2 @@
 pub mod Mdp
+pub mod HoldLaws

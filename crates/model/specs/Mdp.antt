@@ -1,8 +1,9 @@
 -- A Markov decision process: what every source of rows stands for.
 use mathlib.Core.Path.{_≡_}
-use mathlib.Core.Bool.{Bool, false}
+use mathlib.Core.Bool.{Bool, false, cond, _&&_}
 use mathlib.Core.List.{List, [], _∷_, _++_}
 use Prim.Native.Nat.{ℕ, _+_, _≤_, _<_}
+use lib.Dec.{ltb}
 use lib.ListN.{length, getD, take, drop, replicate}
 use Rattle.model.specs.declared.branch.Branch.{Branch}
 
@@ -65,6 +66,19 @@ pub record Lawful (m : Mdp) : Type 0 where
   pub sixteen-letters : (s : ℕ) → length (m .labels s) ≡ 16
   pub none-past : (s : ℕ) → m .states ≤ s → m .choices s ≡ []
   pub no-labels-past : (s : ℕ) → m .states ≤ s → m .labels s ≡ no-labels
+
+-- the choices of a state s that is held: one, back to itself with the whole denominator d
+abbrev pub stay : ℕ → ℕ → List Row
+stay d s = (to s d ∷ []) ∷ []
+
+-- the model m with the states of a set held: each of them only stays, and the rest is as it was
+abbrev pub hold : (ℕ → Bool) → Mdp → Mdp
+hold set m = record {
+  states = m .states;
+  denominator = m .denominator;
+  labels = m .labels;
+  choices = λ s. cond (ltb s (m .states) && set s) (stay (m .denominator) s) (m .choices s);
+}
 
 -- `under` with the elements of `xs` written over its front, as many as fit
 abbrev pub over : {A : Type 0} → List A → List A → List A
