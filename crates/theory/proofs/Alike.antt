@@ -40,6 +40,7 @@ bools false true f g = g refl
 bools false false f g = refl
 
 module _ (m : Mdp) (l : Lawful m) (s : ℕ) (p : s < m .states) where
+  -- rounds over the held model, from the start of right, depend on the two sets at the states only
   pub held-alike : (prefer : ℕ → ℕ → Bool) (mix : ℕ → List (ℕ × ℕ) → ℕ) → RuleLaws prefer mix → (left left′ right right′ : ℕ → Bool) → Alike m left left′ → Alike m right right′ → (k : ℕ) →
       rounds prefer mix k (held left right m) (start right) s ≡ rounds prefer mix k (held left′ right′ m) (start right′) s
   held-alike prefer mix laws left left′ right right′ f g k =
@@ -47,10 +48,12 @@ module _ (m : Mdp) (l : Lawful m) (s : ℕ) (p : s < m .states) where
       (hold-same m (stops left right) (stops left′ right′) (λ t q. rw (f t q, g t q))) refl
       ∙ rounds-same prefer mix laws (held left′ right′ m) (hold-lawful (stops left′ right′) m l) (start right) (start right′) (λ t q. rw (g t q)) k s p
 
+  -- so does the one round of a next on its set
   pub next-alike : (prefer : ℕ → ℕ → Bool) (mix : ℕ → List (ℕ × ℕ) → ℕ) → RuleLaws prefer mix → (f g : ℕ → Bool) → Alike m f g →
       rounds prefer mix 1 m (start f) s ≡ rounds prefer mix 1 m (start g) s
   next-alike prefer mix laws f g h = rounds-same prefer mix laws m l (start f) (start g) (λ t q. rw (h t q)) 1 s p
 
+  -- so do the sets that marks find
   pub marked-alike : (o : Extremal) (left left′ right right′ : ℕ → Bool) → Alike m left left′ → Alike m right right′ → marked-set o left right m s ≡ marked-set o left′ right′ m s
   marked-alike o left left′ right right′ f g = bools _ _
       (λ e. marked-iff m l s p o left′ right′ .1 (without-steps-same m l s p o left left′ right right′ up down up′ down′ (marked-iff m l s p o left right .0 e)))
@@ -70,6 +73,7 @@ module _ (m : Mdp) (l : Lawful m) (s : ℕ) (p : s < m .states) where
 
 -- a part's verdicts, read from a program's row of bytes, may stand for the part
 module _ (m : Mdp) (l : Lawful m) where
+  -- the verdicts of a next
   pub next-verdicts-alike : (c : Comparison) (b : ℕ) (v v′ : VerdictSets) → SameVerdicts m v v′ → SameVerdicts m (next-verdicts c b m v) (next-verdicts c b m v′)
   next-verdicts-alike below b v v′ x = record {
     sures = λ s p. ap (λ n. fits below n b) (next-alike m l s p greater mix-up up-greater (v .possible) (v′ .possible) (x .possibles));
@@ -88,6 +92,7 @@ module _ (m : Mdp) (l : Lawful m) where
     possibles = λ s p. ap (λ n. fits at-least n b) (next-alike m l s p lesser mix-up up-lesser (v .possible) (v′ .possible) (x .possibles));
   }
 
+  -- the verdicts of an until with steps
   pub until-within-verdicts-alike : (c : Comparison) (b k : ℕ) (v v′ w w′ : VerdictSets) → SameVerdicts m v v′ → SameVerdicts m w w′ → SameVerdicts m (until-within-verdicts c b k m v w) (until-within-verdicts c b k m v′ w′)
   until-within-verdicts-alike below b k v v′ w w′ x y = record {
     sures = λ s p. ap (λ n. fits below n b) (held-alike m l s p greater mix-up up-greater _ _ _ _ (x .possibles) (y .possibles) k);
@@ -106,6 +111,7 @@ module _ (m : Mdp) (l : Lawful m) where
     possibles = λ s p. ap (λ n. fits at-least n b) (held-alike m l s p lesser mix-up up-lesser _ _ _ _ (x .possibles) (y .possibles) k);
   }
 
+  -- the verdicts of an until without steps
   pub extremal-verdicts-alike : (o : Extremal) (v v′ w w′ : VerdictSets) → SameVerdicts m v v′ → SameVerdicts m w w′ → SameVerdicts m (extremal-verdicts o m v w) (extremal-verdicts o m v′ w′)
   extremal-verdicts-alike over-none v v′ w w′ x y = record {
     sures = λ s p. marked-alike m l s p over-none _ _ _ _ (x .sures) (y .sures);

@@ -25,9 +25,11 @@ module _ {V : Type 0} (at-least-as-good : V → V → Bool) (mix : ℕ → List 
       (s : ℕ) → s < m .states → getD ys s d ≡ rounds at-least-as-good mix (suc k) m v s
   one-more m l v k xs ys d h e s p = e s p ∙ round-same at-least-as-good mix laws m l (λ t. getD xs t d) (rounds at-least-as-good mix k m v) h s p
 
+  -- the better of two values, the first of equals
   abbrev better : V → V → V
   better x y = cond (at-least-as-good x y) x y
 
+  -- it does not matter which pair is compared first
   better-assoc : (x y z : V) → better (better x y) z ≡ better x (better y z)
   better-assoc x y z = elim (which (at-least-as-good x y)) [
     | inl e ↦ elim (which (at-least-as-good y z)) [
@@ -51,10 +53,12 @@ module _ {V : Type 0} (at-least-as-good : V → V → Bool) (mix : ℕ → List 
   so-far x [] = x
   so-far x (y ∷ ys) = so-far (cond (at-least-as-good x y) x y) ys
 
+  -- the most preferred of a list with one more in front
   most-better : (x y : V) (ys : List V) → most at-least-as-good (better x y) ys ≡ better x (most at-least-as-good y ys)
   most-better x y [] = refl
   most-better x y (z ∷ zs) = better-assoc x y (most at-least-as-good z zs)
 
+  -- the loop finds the most preferred
   pub so-far-most : (x : V) (xs : List V) → so-far x xs ≡ most at-least-as-good x xs
   so-far-most x [] = refl
   so-far-most x (y ∷ ys) = so-far-most (better x y) ys ∙ most-better x y ys

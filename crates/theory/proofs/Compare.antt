@@ -9,6 +9,7 @@ use Rattle.theory.specs.Formulas.{Comparison, below, at-most, above, at-least,
 use Rattle.theory.specs.Verdicts.{fits}
 use Rattle.theory.specs.Distances.{Harder}
 
+-- the test decides
 pub fits-test : (c : Comparison) (x y : ℕ) → (fits c x y ≡ true) ↔ Fits c x y
 fits-test below x y = (ltb-true x y, lt-ltb x y)
 fits-test at-most x y = (leb-true x y, le-leb x y)
@@ -22,24 +23,21 @@ fits-harder at-most x x′ y h f = le-trans h f
 fits-harder above x x′ y h f = lt-of-lt-of-le f h
 fits-harder at-least x x′ y h f = le-trans f h
 
+-- under a factor
 pub harder-times : (c : Comparison) (x x′ d : ℕ) → Harder c x x′ → Harder c (x * d) (x′ * d)
 harder-times below x x′ d h = mul-le-mul-right d h
 harder-times at-most x x′ d h = mul-le-mul-right d h
 harder-times above x x′ d h = mul-le-mul-right d h
 harder-times at-least x x′ d h = mul-le-mul-right d h
 
-pub harder-trans : (c : Comparison) (x y z : ℕ) → Harder c x y → Harder c y z → Harder c x z
-harder-trans below x y z f g = le-trans g f
-harder-trans at-most x y z f g = le-trans g f
-harder-trans above x y z f g = le-trans f g
-harder-trans at-least x y z f g = le-trans f g
-
+-- a comparison holds under a factor
 pub fits-times : (c : Comparison) (x y d : ℕ) → 1 ≤ d → Fits c x y → Fits c (x * d) (y * d)
 fits-times below x y d h f = mul-lt-mul-of-pos-right f h
 fits-times at-most x y d h f = mul-le-mul-right d f
 fits-times above x y d h f = mul-lt-mul-of-pos-right f h
 fits-times at-least x y d h f = mul-le-mul-right d f
 
+-- and without it
 pub fits-part : (c : Comparison) (x y d : ℕ) → 1 ≤ d → Fits c (x * d) (y * d) → Fits c x y
 fits-part below x y d h f = lt-of-mul-lt-mul-right d f
 fits-part at-most x y d h f = le-of-mul-le-mul-right f h

@@ -28,6 +28,7 @@ abbrev mutual
   verdicts m (conjunction f g) = joined (verdicts m f) (verdicts m g)
   verdicts m (probability c b p) = path-verdicts m c b p
 
+  -- a path formula under its comparison and bound
   pub path-verdicts : Mdp → Comparison → ℕ → PathFormula → VerdictSets
   path-verdicts m c b (next f) = next-verdicts c b m (verdicts m f)
   path-verdicts m c b (until-within k f g) = until-within-verdicts c b k m (verdicts m f) (verdicts m g)

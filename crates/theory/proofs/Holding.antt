@@ -23,9 +23,11 @@ module _ (stop : ℕ → Bool) (m : Mdp) where
   pub hold-no : (s : ℕ) → stop s ≡ false → hold stop m .choices s ≡ m .choices s
   hold-no s e = rw (e, and-false (ltb s (m .states)))
 
+  -- past the states nothing changes
   pub hold-past : (s : ℕ) → m .states ≤ s → hold stop m .choices s ≡ m .choices s
   hold-past s p = rw (le-ltb s (m .states) p)
 
+  -- the choices of a state, held or not
   pub hold-cases : (P : List Row → Type 0) (s : ℕ) → (s < m .states → P (back m s ∷ [])) → P (m .choices s) → P (hold stop m .choices s)
   hold-cases P s f g = go (ltb s (m .states)) (stop s) refl
     where
@@ -34,6 +36,7 @@ module _ (stop : ℕ → Bool) (m : Mdp) where
       go true false e = g
       go false c e = g
 
+  -- a model with states held keeps the laws
   pub hold-lawful : Lawful m → Lawful (hold stop m)
   hold-lawful l = record {
     some-state = l .some-state;
@@ -62,6 +65,7 @@ module _ (stop : ℕ → Bool) (m : Mdp) where
   lifted σ [] = 0
   lifted σ (s ∷ h) = cond (stop s) 0 (σ (s ∷ h))
 
+  -- it is allowed there
   pub lifted-allowed : (σ : Adversary) → Allowed m σ → Allowed (hold stop m) (lifted σ)
   unfolding lifted
   lifted-allowed σ a h s p = go (stop s) refl
@@ -70,6 +74,7 @@ module _ (stop : ℕ → Bool) (m : Mdp) where
       go true e = rw (hold-yes s p e, e) (omega arith)
       go false e = rw (hold-no s e, e) (a h s p)
 
+  -- and takes the same row where the state is not held
   pub lifted-row : (σ : Adversary) (h : List ℕ) (s : ℕ) → stop s ≡ false → chosen (hold stop m) (lifted σ) h s ≡ chosen m σ h s
   unfolding lifted
   lifted-row σ h s e = rw (hold-no s e, e)
@@ -98,6 +103,7 @@ pub data Kind (left right : ℕ → Bool) (s : ℕ) : Type 0 where
   lost : right s ≡ false → left s ≡ false → Kind left right s
   under-way : right s ≡ false → left s ≡ true → Kind left right s
 
+-- every state is of one kind
 pub kind : (left right : ℕ → Bool) (s : ℕ) → Kind left right s
 kind left right s = go (right s) (left s) refl refl
   where

@@ -32,11 +32,13 @@ pub record Among (m : Mdp) (v : VerdictSets) (set : ℕ → Bool) : Type 0 where
 module _ (m : Mdp) (l : Lawful m) (s : ℕ) (p : s < m .states) where
   -- an end that every adversary's value keeps to, and one that some value keeps to
   module _ (q : Adversary → ℕ) (b k yes-end no-end : ℕ) (c : Comparison) where
+    -- where the end that all values keep to fits the bound, every value fits it
     end-yes : ((σ : Adversary) → Allowed m σ → Harder c (yes-end * m .denominator ^ k) (q σ * whole)) →
         fits c yes-end b ≡ true → (σ : Adversary) → Allowed m σ → Fits c (q σ * whole) (b * m .denominator ^ k)
     end-yes h e σ a = fits-harder c (yes-end * m .denominator ^ k) (q σ * whole) (b * m .denominator ^ k) (h σ a)
         (fits-times c yes-end b (m .denominator ^ k) (one-le-pow k (m .denominator) (l .some-unit)) (fits-test c yes-end b .0 e))
 
+    -- where every value fits the bound, so does the end that some value keeps to
     end-no : (σ : Adversary) × Allowed m σ × Harder c (q σ * whole) (no-end * m .denominator ^ k) →
         ((σ : Adversary) → Allowed m σ → Fits c (q σ * whole) (b * m .denominator ^ k)) → fits c no-end b ≡ true
     end-no r f = fits-test c no-end b .1 (fits-part c no-end b (m .denominator ^ k) (one-le-pow k (m .denominator) (l .some-unit))
@@ -53,24 +55,31 @@ module _ (m : Mdp) (l : Lawful m) (s : ℕ) (p : s < m .states) where
   )
 
   module _ (v w : VerdictSets) (left right : ℕ → Bool) (x : Among m v left) (y : Among m w right) (k : ℕ) where
+    -- on the sure sets a tally is no larger
     more : (σ : Adversary) → Allowed m σ → tally (v .sure) (w .sure) k m σ s * whole ≤ tally left right k m σ s * whole
     more σ a = mul-le-mul-right whole (tally-below m l σ a (v .sure) left (w .sure) right (x .low) (y .low) k [] s p)
 
+    -- on the possible sets it is no smaller
     less : (σ : Adversary) → Allowed m σ → tally left right k m σ s * whole ≤ tally (v .possible) (w .possible) k m σ s * whole
     less σ a = mul-le-mul-right whole (tally-below m l σ a left (v .possible) right (w .possible) (x .high) (y .high) k [] s p)
 
+    -- the upper end on the possible sets bounds the best
     pub best-yes : (σ : Adversary) → Allowed m σ → tally left right k m σ s * whole ≤ upper greater (v .possible) (w .possible) k m s * m .denominator ^ k
     best-yes σ a = le-trans (less σ a) (best-none-above (v .possible) (w .possible) m l k s p σ a)
 
+    -- some adversary reaches the lower end on the sure sets
     pub best-no : (σ : Adversary) × Allowed m σ × (lower greater (v .sure) (w .sure) k m s * m .denominator ^ k ≤ tally left right k m σ s * whole)
     best-no = let r = best-some (v .sure) (w .sure) m l k s p in (r .0, r .1, le-trans (r .2) (more (r .0) (r .1)))
 
+    -- the lower end on the sure sets bounds the worst
     pub worst-yes : (σ : Adversary) → Allowed m σ → lower lesser (v .sure) (w .sure) k m s * m .denominator ^ k ≤ tally left right k m σ s * whole
     worst-yes σ a = le-trans (worst-none-below (v .sure) (w .sure) m l k s p σ a) (more σ a)
 
+    -- some adversary is down at the upper end on the possible sets
     pub worst-no : (σ : Adversary) × Allowed m σ × (tally left right k m σ s * whole ≤ upper lesser (v .possible) (w .possible) k m s * m .denominator ^ k)
     worst-no = let r = worst-some (v .possible) (w .possible) m l k s p in (r .0, r .1, le-trans (less (r .0) (r .1)) (r .2))
 
+    -- so the verdicts of an until with steps are correct
     pub until-within-correct : (c : Comparison) (b : ℕ) →
         Correct (until-within-verdicts c b k m v w) ((σ : Adversary) → Allowed m σ → Fits c (tally left right k m σ s * whole) (b * m .denominator ^ k)) s
     until-within-correct below b = record { yes-holds = end-yes (λ σ. tally left right k m σ s) b k _ 0 below best-yes; holds-possible = end-no (λ σ. tally left right k m σ s) b k 0 _ below best-no }
@@ -79,24 +88,31 @@ module _ (m : Mdp) (l : Lawful m) (s : ℕ) (p : s < m .states) where
     until-within-correct at-least b = record { yes-holds = end-yes (λ σ. tally left right k m σ s) b k _ 0 at-least worst-yes; holds-possible = end-no (λ σ. tally left right k m σ s) b k 0 _ at-least worst-no }
 
   module _ (v : VerdictSets) (set : ℕ → Bool) (x : Among m v set) where
+    -- the same for next: on the sure set a tally is no larger
     next-more : (σ : Adversary) → Allowed m σ → next-tally (v .sure) m σ s * whole ≤ next-tally set m σ s * whole
     next-more σ a = mul-le-mul-right whole (next-below m l σ a (v .sure) set (x .low) s p)
 
+    -- on the possible set no smaller
     next-less : (σ : Adversary) → Allowed m σ → next-tally set m σ s * whole ≤ next-tally (v .possible) m σ s * whole
     next-less σ a = mul-le-mul-right whole (next-below m l σ a set (v .possible) (x .high) s p)
 
+    -- the upper end bounds the best
     pub next-best-yes : (σ : Adversary) → Allowed m σ → next-tally set m σ s * whole ≤ rounds greater mix-up 1 m (start (v .possible)) s * m .denominator ^ 1
     next-best-yes σ a = le-trans (next-less σ a) (next-none-above (v .possible) m l s p σ a)
 
+    -- some adversary reaches the lower end
     pub next-best-no : (σ : Adversary) × Allowed m σ × (rounds greater mix-down 1 m (start (v .sure)) s * m .denominator ^ 1 ≤ next-tally set m σ s * whole)
     next-best-no = let r = next-best-some (v .sure) m l s p in (r .0, r .1, le-trans (r .2) (next-more (r .0) (r .1)))
 
+    -- the lower end bounds the worst
     pub next-worst-yes : (σ : Adversary) → Allowed m σ → rounds lesser mix-down 1 m (start (v .sure)) s * m .denominator ^ 1 ≤ next-tally set m σ s * whole
     next-worst-yes σ a = le-trans (next-none-below (v .sure) m l s p σ a) (next-more σ a)
 
+    -- some adversary is down at the upper end
     pub next-worst-no : (σ : Adversary) × Allowed m σ × (next-tally set m σ s * whole ≤ rounds lesser mix-up 1 m (start (v .possible)) s * m .denominator ^ 1)
     next-worst-no = let r = next-worst-some (v .possible) m l s p in (r .0, r .1, le-trans (next-less (r .0) (r .1)) (r .2))
 
+    -- so the verdicts of a next are correct
     pub next-correct : (c : Comparison) (b : ℕ) →
         Correct (next-verdicts c b m v) ((σ : Adversary) → Allowed m σ → Fits c (next-tally set m σ s * whole) (b * m .denominator ^ 1)) s
     next-correct below b = record { yes-holds = end-yes (λ σ. next-tally set m σ s) b 1 _ 0 below next-best-yes; holds-possible = end-no (λ σ. next-tally set m σ s) b 1 0 _ below next-best-no }
@@ -104,6 +120,7 @@ module _ (m : Mdp) (l : Lawful m) (s : ℕ) (p : s < m .states) where
     next-correct above b = record { yes-holds = end-yes (λ σ. next-tally set m σ s) b 1 _ 0 above next-worst-yes; holds-possible = end-no (λ σ. next-tally set m σ s) b 1 0 _ above next-worst-no }
     next-correct at-least b = record { yes-holds = end-yes (λ σ. next-tally set m σ s) b 1 _ 0 at-least next-worst-yes; holds-possible = end-no (λ σ. next-tally set m σ s) b 1 0 _ at-least next-worst-no }
 
+  -- the verdicts of an until without steps are correct
   pub extremal-correct : (o : Extremal) (v w : VerdictSets) (left right : ℕ → Bool) → Among m v left → Among m w right → Correct (extremal-verdicts o m v w) (Without-steps o left right m s) s
   extremal-correct over-none v w left right x y = record {
     yes-holds = λ e. positive-more m l s p _ _ _ _ (x .low) (y .low) (marked-iff m l s p over-none (v .sure) (w .sure) .0 e);
@@ -123,6 +140,7 @@ module _ (m : Mdp) (l : Lawful m) (s : ℕ) (p : s < m .states) where
   until-correct None v w left right x y = record { yes-holds = λ e. true-not-false false e refl; holds-possible = λ h. absurd h }
   until-correct (Some o) v w left right x y = extremal-correct o v w left right x y
 
+-- the set of a formula lies between the sure states and the possible ones of correct verdicts
 pub among : (m : Mdp) (P : ℕ → Type 0) (v : VerdictSets) → ((s : ℕ) → s < m .states → Correct v (P s) s) → (set : ℕ → Bool) → SetOf m P set → Among m v set
 among m P v r set x = record { low = λ s p e. x s p .1 (r s p .yes-holds e); high = λ s p e. r s p .holds-possible (x s p .0 e) }
 
@@ -140,6 +158,7 @@ mutual
   }
   sound m l (probability c b q) s p = path-sound m l c b q s p
 
+  -- a path formula, by its parts
   pub path-sound : (m : Mdp) → Lawful m → (c : Comparison) (b : ℕ) (q : PathFormula) (s : ℕ) → s < m .states → Correct (path-verdicts m c b q) (PathHolds m c b q s) s
   path-sound m l c b (next f) s p =
       let d = decided m l f in

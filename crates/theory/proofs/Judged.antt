@@ -15,15 +15,19 @@ use Rattle.theory.proofs.Alike.{next-verdicts-alike, until-within-verdicts-ali
 use Rattle.theory.proofs.Judge.{sound}
 use Rattle.theory.proofs.Near.{same-set, within-value, next-value, formula-near, formula-next-near, extremal-decided}
 
+-- verdicts are the same as themselves
 same-refl : (m : Mdp) (v : VerdictSets) → SameVerdicts m v v
 same-refl m v = record { sures = λ s p. refl; possibles = λ s p. refl }
 
+-- through a third
 same-trans : (m : Mdp) (u v w : VerdictSets) → SameVerdicts m u v → SameVerdicts m v w → SameVerdicts m u w
 same-trans m u v w x y = record { sures = λ s p. x .sures s p ∙ y .sures s p; possibles = λ s p. x .possibles s p ∙ y .possibles s p }
 
+-- not keeps sameness
 negated-alike : (m : Mdp) (v w : VerdictSets) → SameVerdicts m v w → SameVerdicts m (negated v) (negated w)
 negated-alike m v w x = record { sures = λ s p. ap not (x .possibles s p); possibles = λ s p. ap not (x .sures s p) }
 
+-- and keeps sameness
 joined-alike : (m : Mdp) (v v′ w w′ : VerdictSets) → SameVerdicts m v v′ → SameVerdicts m w w′ → SameVerdicts m (joined v w) (joined v′ w′)
 joined-alike m v v′ w w′ x y = record { sures = λ s p. ap₂ _&&_ (x .sures s p) (y .sures s p); possibles = λ s p. ap₂ _&&_ (x .possibles s p) (y .possibles s p) }
 
@@ -32,11 +36,13 @@ module _ (m : Mdp) (l : Lawful m) where
   marked : (o : Extremal) (left right : ℕ → Bool) → SetOf m (Without-steps o left right m) (marked-set o left right m)
   marked o left right s p = marked-iff m l s p o left right
 
+  -- they are the verdicts over the sets of the parts
   extremal-found : (o : Extremal) (v w : VerdictSets) → ExtremalJudged o m v w (extremal-verdicts o m v w)
   extremal-found over-none v w = (marked over-none (v .sure) (w .sure), marked over-none (v .possible) (w .possible))
   extremal-found at-most-none v w = (marked at-most-none (v .possible) (w .possible), marked at-most-none (v .sure) (w .sure))
   extremal-found at-least-whole v w = (marked at-least-whole (v .sure) (w .sure), marked at-least-whole (v .possible) (w .possible))
 
+  -- under every bound
   until-found : (o : Option Extremal) (v w : VerdictSets) → UntilJudged o m v w (until-verdicts o m v w)
   until-found None v w = same-refl m (known (λ s. false))
   until-found (Some o) v w = extremal-found o v w
@@ -45,11 +51,13 @@ module _ (m : Mdp) (l : Lawful m) where
   only-marked : (o : Extremal) (left right set : ℕ → Bool) → SetOf m (Without-steps o left right m) set → Alike m set (marked-set o left right m)
   only-marked o left right set x = same-set m (Without-steps o left right m) set (marked-set o left right m) x (marked o left right)
 
+  -- so of the two sets of its verdicts
   extremal-only : (o : Extremal) (v w u : VerdictSets) → ExtremalJudged o m v w u → SameVerdicts m u (extremal-verdicts o m v w)
   extremal-only over-none v w u x = record { sures = only-marked over-none (v .sure) (w .sure) (u .sure) (x .0); possibles = only-marked over-none (v .possible) (w .possible) (u .possible) (x .1) }
   extremal-only at-most-none v w u x = record { sures = only-marked at-most-none (v .possible) (w .possible) (u .sure) (x .0); possibles = only-marked at-most-none (v .sure) (w .sure) (u .possible) (x .1) }
   extremal-only at-least-whole v w u x = record { sures = only-marked at-least-whole (v .sure) (w .sure) (u .sure) (x .0); possibles = only-marked at-least-whole (v .possible) (w .possible) (u .possible) (x .1) }
 
+  -- under every bound, from parts that are the same
   until-only : (o : Option Extremal) (v v′ w w′ u : VerdictSets) → SameVerdicts m v v′ → SameVerdicts m w w′ → UntilJudged o m v w u → SameVerdicts m u (until-verdicts o m v′ w′)
   until-only None v v′ w w′ u x y j = j
   until-only (Some o) v v′ w w′ u x y j =
@@ -64,6 +72,7 @@ mutual
   found m l (conjunction f g) = (verdicts m f, verdicts m g, found m l f, found m l g, same-refl m (joined (verdicts m f) (verdicts m g)))
   found m l (probability c b p) = path-found m l c b p
 
+  -- a path formula, by its parts
   path-found : (m : Mdp) → Lawful m → (c : Comparison) (b : ℕ) (p : PathFormula) → PathJudged m c b p (path-verdicts m c b p)
   path-found m l c b (next f) = (verdicts m f, found m l f, same-refl m (next-verdicts c b m (verdicts m f)))
   path-found m l c b (until-within k f g) = (verdicts m f, verdicts m g, found m l f, found m l g, same-refl m (until-within-verdicts c b k m (verdicts m f) (verdicts m g)))
@@ -79,6 +88,7 @@ mutual
       (joined-alike m (j .0) (verdicts m f) (j .1) (verdicts m g) (only-found m l f (j .0) (j .2)) (only-found m l g (j .1) (j .3)))
   only-found m l (probability c b p) u j = path-only-found m l c b p u j
 
+  -- a path formula, by its parts
   path-only-found : (m : Mdp) → Lawful m → (c : Comparison) (b : ℕ) (p : PathFormula) (u : VerdictSets) → PathJudged m c b p u → SameVerdicts m u (path-verdicts m c b p)
   path-only-found m l c b (next f) u j = same-trans m u (next-verdicts c b m (j .0)) (next-verdicts c b m (verdicts m f)) (j .2)
       (next-verdicts-alike m l c b (j .0) (verdicts m f) (only-found m l f (j .0) (j .1)))
@@ -103,6 +113,7 @@ verdicts-correct m l f v j s p =
 decided-same : (m : Mdp) (v w : VerdictSets) → SameVerdicts m v w → Decided m v → Decided m w
 decided-same m v w e d s p = sym (e .sures s p) ∙ d s p ∙ e .possibles s p
 
+-- and undecided alike
 undecided-same : (m : Mdp) (v w : VerdictSets) → SameVerdicts m v w → (s : ℕ) → s < m .states → Undecided v s → Undecided w s
 undecided-same m v w e s p u = record { not-sure = sym (e .sures s p) ∙ u .not-sure; is-possible = sym (e .possibles s p) ∙ u .is-possible }
 

@@ -9,11 +9,13 @@ use native.Mathlib.Omega.{arith}
 use lib.ListN.{length, getD}
 use Rattle.model.specs.Mdp.{Each}
 
+-- what holds of each holds at a place
 pub each-at : {A : Type 0} (P : A → Type 0) (xs : List A) (i : ℕ) (d : A) → Each P xs → i < length xs → P (getD xs i d)
 each-at P [] i d e h = absurd (not-suc-le-zero h)
 each-at P (x ∷ xs) zero d e h = e .0
 each-at P (x ∷ xs) (suc i) d e h = each-at P xs i d (e .1) (le-of-suc-le-suc h)
 
+-- a mapped list is as long
 pub length-map : {A B : Type 0} (f : A → B) (xs : List A) → length (map f xs) ≡ length xs
 length-map f [] = refl
 length-map f (x ∷ xs) = ap suc (length-map f xs)
@@ -24,10 +26,12 @@ getD-map f [] i a b h = absurd (not-suc-le-zero h)
 getD-map f (x ∷ xs) zero a b h = refl
 getD-map f (x ∷ xs) (suc i) a b h = getD-map f xs i a b (le-of-suc-le-suc h)
 
+-- what is not true is false
 pub not-true : (b : Bool) → (b ≡ true → ⊥) → b ≡ false
 not-true true h = absurd (h refl)
 not-true false h = refl
 
+-- nothing is both true and false
 pub true-not-false : {A : Type 0} (b : Bool) → b ≡ true → b ≡ false → A
 true-not-false b p q = let z : _≡_ {A = ℕ} 0 1 = ap (λ c. cond c 0 1) (sym p ∙ q) in absurd (omega arith)
 

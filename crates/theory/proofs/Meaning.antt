@@ -25,14 +25,17 @@ use Rattle.theory.proofs.WithoutSteps.{positive-iff, never-iff}
 use Rattle.theory.proofs.Sure.{certain-iff}
 use Rattle.theory.proofs.Settle.{all-settled, some-settled, unmarked-settled}
 
+-- what is not, is false
 pub not-yes : (b : Bool) → not b ≡ true → b ≡ false
 not-yes true e = sym e
 not-yes false e = refl
 
+-- both are true
 pub and-yes : (x y : Bool) → (x && y) ≡ true → (x ≡ true) × (y ≡ true)
 and-yes true y e = (refl, e)
 and-yes false y e = true-not-false false e refl
 
+-- two sets of the same states
 pub set-sub : (m : Mdp) (P : ℕ → Type 0) (f g : ℕ → Bool) → SetOf m P f → SetOf m P g → Subset m f g
 set-sub m P f g x y s p e = y s p .1 (x s p .0 e)
 
@@ -43,6 +46,7 @@ extreme at-most left right k m s = best-tally left right k m s
 extreme above left right k m s = worst-tally left right k m s
 extreme at-least left right k m s = worst-tally left right k m s
 
+-- the same for next
 abbrev pub extreme-next : Comparison → (ℕ → Bool) → Mdp → ℕ → ℕ
 extreme-next below set m s = rounds greater mix-sum 1 m (one-in set) s
 extreme-next at-most set m s = rounds greater mix-sum 1 m (one-in set) s
@@ -50,30 +54,35 @@ extreme-next above set m s = rounds lesser mix-sum 1 m (one-in set) s
 extreme-next at-least set m s = rounds lesser mix-sum 1 m (one-in set) s
 
 module _ (m : Mdp) (l : Lawful m) (s : ℕ) (p : s < m .states) where
+  -- no adversary is harder
   pub extreme-bound : (c : Comparison) (left right : ℕ → Bool) (k : ℕ) (σ : Adversary) → Allowed m σ → Harder c (extreme c left right k m s) (tally left right k m σ s)
   extreme-bound below left right k = best-largest left right m l k s p
   extreme-bound at-most left right k = best-largest left right m l k s p
   extreme-bound above left right k = worst-smallest left right m l k s p
   extreme-bound at-least left right k = worst-smallest left right m l k s p
 
+  -- some adversary has it
   pub extreme-is : (c : Comparison) (left right : ℕ → Bool) (k : ℕ) → (σ : Adversary) × Allowed m σ × (tally left right k m σ s ≡ extreme c left right k m s)
   extreme-is below left right k = best-reached left right m l k s p
   extreme-is at-most left right k = best-reached left right m l k s p
   extreme-is above left right k = worst-reached left right m l k s p
   extreme-is at-least left right k = worst-reached left right m l k s p
 
+  -- no adversary is harder
   pub extreme-next-bound : (c : Comparison) (set : ℕ → Bool) (σ : Adversary) → Allowed m σ → Harder c (extreme-next c set m s) (next-tally set m σ s)
   extreme-next-bound below set = next-largest set m l s p
   extreme-next-bound at-most set = next-largest set m l s p
   extreme-next-bound above set = next-smallest set m l s p
   extreme-next-bound at-least set = next-smallest set m l s p
 
+  -- some adversary has it
   pub extreme-next-is : (c : Comparison) (set : ℕ → Bool) → (σ : Adversary) × Allowed m σ × (next-tally set m σ s ≡ extreme-next c set m s)
   extreme-next-is below set = next-largest-is set m l s p
   extreme-next-is at-most set = next-largest-is set m l s p
   extreme-next-is above set = next-smallest-is set m l s p
   extreme-next-is at-least set = next-smallest-is set m l s p
 
+  -- all adversaries fit a bound exactly if the hardest tally does
   pub next-iff : (c : Comparison) (b : ℕ) (set : ℕ → Bool) → (fits c (extreme-next c set m s * whole) (b * m .denominator ^ 1) ≡ true) ↔
       ((σ : Adversary) → Allowed m σ → Fits c (next-tally set m σ s * whole) (b * m .denominator ^ 1))
   next-iff c b set = (
@@ -82,6 +91,7 @@ module _ (m : Mdp) (l : Lawful m) (s : ℕ) (p : s < m .states) where
     λ h. let r = extreme-next-is c set in fits-test c (extreme-next c set m s * whole) (b * m .denominator ^ 1) .1 (rw (r .2) at (h (r .0) (r .1))),
   )
 
+  -- the same of an until with steps
   pub within-iff : (c : Comparison) (b k : ℕ) (left right : ℕ → Bool) → (fits c (extreme c left right k m s * whole) (b * m .denominator ^ k) ≡ true) ↔
       ((σ : Adversary) → Allowed m σ → Fits c (tally left right k m σ s * whole) (b * m .denominator ^ k))
   within-iff c b k left right = (
@@ -90,9 +100,11 @@ module _ (m : Mdp) (l : Lawful m) (s : ℕ) (p : s < m .states) where
     λ h. let r = extreme-is c left right k in fits-test c (extreme c left right k m s * whole) (b * m .denominator ^ k) .1 (rw (r .2) at (h (r .0) (r .1))),
   )
 
+  -- equal sets give equal tallies of a next
   next-same : (set set′ : ℕ → Bool) → Subset m set set′ → Subset m set′ set → (σ : Adversary) → Allowed m σ → next-tally set m σ s ≡ next-tally set′ m σ s
   next-same set set′ f g σ a = le-antisymm (next-below m l σ a set set′ f s p) (next-below m l σ a set′ set g s p)
 
+  -- and of an until
   tally-same : (left left′ right right′ : ℕ → Bool) → Subset m left left′ → Subset m left′ left → Subset m right right′ → Subset m right′ right →
       (k : ℕ) (σ : Adversary) → Allowed m σ → tally left right k m σ s ≡ tally left′ right′ k m σ s
   tally-same left left′ right right′ f f′ g g′ k σ a =
@@ -102,12 +114,15 @@ module _ (m : Mdp) (l : Lawful m) (s : ℕ) (p : s < m .states) where
   pub positive-more : (left left′ right right′ : ℕ → Bool) → Subset m left left′ → Subset m right right′ → Positive left right m s → Positive left′ right′ m s
   positive-more left left′ right right′ f g h σ a = let r = h σ a in (r .0, lt-of-lt-of-le (r .1) (tally-below m l σ a left left′ right right′ f g (r .0) [] s p))
 
+  -- smaller sets keep never
   pub never-less : (left left′ right right′ : ℕ → Bool) → Subset m left′ left → Subset m right′ right → Never left right m s → Never left′ right′ m s
   never-less left left′ right right′ f g h σ a k = let x = h σ a k in let y = tally-below m l σ a left′ left right′ right f g k [] s p in omega arith
 
+  -- larger sets keep certain
   pub certain-more : (left left′ right right′ : ℕ → Bool) → Subset m left left′ → Subset m right right′ → Certain left right m s → Certain left′ right′ m s
   certain-more left left′ right right′ f g h σ a n q = let r = h σ a n q in (r .0, le-trans (r .1) (mul-le-mul-left n (tally-below m l σ a left left′ right right′ f g (r .0) [] s p)))
 
+  -- the settled marks decide
   pub marked-iff : (o : Extremal) (left right : ℕ → Bool) → (marked-set o left right m s ≡ true) ↔ Without-steps o left right m s
   marked-iff over-none left right = positive-iff left right m l (m .states) (all-settled left right m l) s p
   marked-iff at-most-none left right = let r = never-iff left right m l (m .states) (some-settled left right m l) s p in
@@ -115,6 +130,7 @@ module _ (m : Mdp) (l : Lawful m) (s : ℕ) (p : s < m .states) where
   marked-iff at-least-whole left right = let r = certain-iff left right m l (m .states) (all-settled left right m l) (m .states) (unmarked-settled left right m l) s p in
       (λ e. r .0 (not-yes _ e), λ h. ap not (r .1 h))
 
+  -- equal sets say the same
   pub without-steps-same : (o : Extremal) (left left′ right right′ : ℕ → Bool) → Subset m left left′ → Subset m left′ left → Subset m right right′ → Subset m right′ right →
       Without-steps o left right m s → Without-steps o left′ right′ m s
   without-steps-same over-none left left′ right right′ f f′ g g′ = positive-more left left′ right right′ f g
@@ -166,6 +182,7 @@ mutual
   )
   decided m l (probability c b p) = path-decided m l c b p
 
+  -- a path formula has a set, by those of its parts
   pub path-decided : (m : Mdp) → Lawful m → (c : Comparison) (b : ℕ) (p : PathFormula) → (set : ℕ → Bool) × SetOf m (PathHolds m c b p) set
   path-decided m l c b (next f) = let r = decided m l f in (
     λ s. fits c (extreme-next c (r .0) m s * whole) (b * m .denominator ^ 1),

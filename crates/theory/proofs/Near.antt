@@ -57,6 +57,7 @@ module _ (m : Mdp) (l : Lawful m) (s : ℕ) (p : s < m .states) (tallied : Adver
       near-best k b d lo hi x close (le-trans (some .2) (mul-le-mul-right whole (all (some .0) (some .1))))
       (rw (at .2) at (above-all (at .0) (at .1))) u v
 
+  -- so does the worst
   worst-between : ((σ : Adversary) → Allowed m σ → lo * d ≤ tallied σ * whole) → (σ : Adversary) × Allowed m σ × (tallied σ * whole ≤ hi * d) →
       (σ : Adversary) × Allowed m σ × (tallied σ ≡ x) → ((σ : Adversary) → Allowed m σ → x ≤ tallied σ) → lo ≤ b → b ≤ hi → Within-units k b d x
   worst-between below-all some at all u v =
@@ -65,6 +66,7 @@ module _ (m : Mdp) (l : Lawful m) (s : ℕ) (p : s < m .states) (tallied : Adver
 
 module _ (m : Mdp) (l : Lawful m) (s : ℕ) (p : s < m .states) (v w : VerdictSets) (x : Decided m v) (y : Decided m w) (k : ℕ)
     (left right : ℕ → Bool) (f : Among m v left) (g : Among m w right) (b n : ℕ) where
+  -- an until for the best, over decided parts
   best-near : (σ : Adversary) × Allowed m σ × (tally left right k m σ s ≡ n) → ((σ : Adversary) → Allowed m σ → tally left right k m σ s ≤ n) →
       lower greater (v .sure) (w .sure) k m s ≤ b → b ≤ upper greater (v .possible) (w .possible) k m s → Within-units k b (m .denominator ^ k) n
   best-near = best-between m l s p (λ σ. tally left right k m σ s) b k (m .denominator ^ k) n _ _
@@ -72,6 +74,7 @@ module _ (m : Mdp) (l : Lawful m) (s : ℕ) (p : s < m .states) (v w : VerdictSe
       (best-close (v .sure) (w .sure) m l k s p))
       (best-yes m l s p v w left right f g k) (best-no m l s p v w left right f g k)
 
+  -- and for the worst
   worst-near : (σ : Adversary) × Allowed m σ × (tally left right k m σ s ≡ n) → ((σ : Adversary) → Allowed m σ → n ≤ tally left right k m σ s) →
       lower lesser (v .sure) (w .sure) k m s ≤ b → b ≤ upper lesser (v .possible) (w .possible) k m s → Within-units k b (m .denominator ^ k) n
   worst-near = worst-between m l s p (λ σ. tally left right k m σ s) b k (m .denominator ^ k) n _ _
@@ -87,6 +90,7 @@ module _ (m : Mdp) (l : Lawful m) (s : ℕ) (p : s < m .states) (v w : VerdictSe
   within-near at-least u e = let i = leb-false _ _ (u .not-sure) in let j = leb-true _ _ (u .is-possible) in worst-near (e .attained) (e .kept) (omega arith) (omega arith)
 
 module _ (m : Mdp) (l : Lawful m) (s : ℕ) (p : s < m .states) (v : VerdictSets) (x : Decided m v) (set : ℕ → Bool) (f : Among m v set) (b n : ℕ) where
+  -- a next for the best
   next-best-near : (σ : Adversary) × Allowed m σ × (next-tally set m σ s ≡ n) → ((σ : Adversary) → Allowed m σ → next-tally set m σ s ≤ n) →
       rounds greater mix-down 1 m (start (v .sure)) s ≤ b → b ≤ rounds greater mix-up 1 m (start (v .possible)) s → Within-units 1 b (m .denominator ^ 1) n
   next-best-near = best-between m l s p (λ σ. next-tally set m σ s) b 1 (m .denominator ^ 1) n _ _
@@ -94,6 +98,7 @@ module _ (m : Mdp) (l : Lawful m) (s : ℕ) (p : s < m .states) (v : VerdictSets
       (rounds-close greater greater-close m l (start (v .sure)) 1 s p))
       (next-best-yes m l s p v set f) (next-best-no m l s p v set f)
 
+  -- and for the worst
   next-worst-near : (σ : Adversary) × Allowed m σ × (next-tally set m σ s ≡ n) → ((σ : Adversary) → Allowed m σ → n ≤ next-tally set m σ s) →
       rounds lesser mix-down 1 m (start (v .sure)) s ≤ b → b ≤ rounds lesser mix-up 1 m (start (v .possible)) s → Within-units 1 b (m .denominator ^ 1) n
   next-worst-near = worst-between m l s p (λ σ. next-tally set m σ s) b 1 (m .denominator ^ 1) n _ _
@@ -117,6 +122,7 @@ formula-near m l c b k f g x y s p u left right i j n e =
     within-near m l s p (verdicts m f) (verdicts m g) x y k left right
     (among m (Holds m f) (verdicts m f) (λ t q. sound m l f t q) left i) (among m (Holds m g) (verdicts m g) (λ t q. sound m l g t q) right j) b n c u e
 
+-- and of a next
 pub formula-next-near : (m : Mdp) → Lawful m → (c : Comparison) (b : ℕ) (f : Formula) → Decided m (verdicts m f) →
     (s : ℕ) → s < m .states → Undecided (verdicts m (probability c b (next f))) s →
     (set : ℕ → Bool) → SetOf m (Holds m f) set → (n : ℕ) → Extreme c m (λ σ. next-tally set m σ s) n →

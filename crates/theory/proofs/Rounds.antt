@@ -19,6 +19,7 @@ abbrev pub Within : ℕ → Row → Type 0
 Within n [] = Unit {0}
 Within n (b ∷ bs) = (b .target < n) × Within n bs
 
+-- the targets of a lawful row do
 pub ascends-within : (n low : ℕ) (r : Row) → Ascends n low r → Within n r
 ascends-within n low [] a = tt
 ascends-within n low (b ∷ bs) a = (a .1, ascends-within n (b .target + 1) bs (a .3))
@@ -37,6 +38,7 @@ each-append P (z ∷ zs) ys x y = (x .0, each-append P zs ys (x .1) y)
 pub row-lawful : (m : Mdp) → Lawful m → (s c : ℕ) → c < length (m .choices s) → LawfulRow (m .states) (m .denominator) (row m s c)
 row-lawful m l s c h = each-at (LawfulRow (m .states) (m .denominator)) (m .choices s) c [] (l .rows s) h
 
+-- and its targets are states
 pub row-within : (m : Mdp) → Lawful m → (s c : ℕ) → c < length (m .choices s) → Within (m .states) (row m s c)
 row-within m l s c h = ascends-within (m .states) 0 (row m s c) (row-lawful m l s c h .ascends)
 
@@ -51,6 +53,7 @@ module _ {V : Type 0} (at-least-as-good : V → V → Bool) where
       go true e r = (0, omega arith, rw e)
       go false e r = (suc (r .0), suc-le-suc (r .1), rw e (r .2))
 
+  -- of a list, empty or not
   pub most-of-at : (d e : V) (xs : List V) → (i : ℕ) × (1 ≤ length xs → (i < length xs) × (getD xs i e ≡ most-of at-least-as-good d xs))
   most-of-at d e [] = (0, λ h. absurd (not-suc-le-zero h))
   most-of-at d e (x ∷ xs) = let r = most-at e x xs in (r .0, λ h. (r .1, r .2))
@@ -72,6 +75,7 @@ module _ {V : Type 0} (at-least-as-good : V → V → Bool) (mix : ℕ → List 
       go true e r = rw e (laws .transitive x (most at-least-as-good y ys) (getD (y ∷ ys) i d) e r)
       go false e r = rw e r
 
+  -- of a list, empty or not
   pub most-of-best : (d e : V) (xs : List V) (i : ℕ) → i < length xs → at-least-as-good (most-of at-least-as-good d xs) (getD xs i e) ≡ true
   most-of-best d e [] i h = absurd (not-suc-le-zero h)
   most-of-best d e (x ∷ xs) i h = most-best e x xs i h
@@ -110,6 +114,7 @@ module _ {V : Type 0} (at-least-as-good : V → V → Bool) (mix : ℕ → List 
       (mix-after d n (before ++ ((b .weight, g (b .target)) ∷ [])) f g bs u
       (each-append (λ (p : ℕ × V). 1 ≤ p .0) before ((b .weight, g (b .target)) ∷ []) x (y .0, tt)) (y .1) (omega (arith, weight-after before g (b ∷ []))) (w .1) h))
 
+  -- over the whole row
   pub mixed-better : (m : Mdp) → Lawful m → (f g : ℕ → V) (r : Row) → LawfulRow (m .states) (m .denominator) r →
       ((t : ℕ) → t < m .states → at-least-as-good (f t) (g t) ≡ true) → at-least-as-good (mixed mix m f r) (mixed mix m g r) ≡ true
   mixed-better m u f g r l h = mix-after (m .denominator) (m .states) [] f g r (u .some-unit, u .few-units) tt (ascends-weights (m .states) 0 r (l .ascends))
@@ -162,6 +167,7 @@ module _ {V : Type 0} (at-least-as-good : V → V → Bool) (mix : ℕ → List 
   rising m l v b zero s p = b s p
   rising m l v b (suc k) s p = round-better m l (rounds at-least-as-good mix (suc k) m v) (rounds at-least-as-good mix k m v) (λ t q. rising m l v b k t q) s p
 
+  -- or no better
   pub falling : (m : Mdp) → Lawful m → (v : ℕ → V) → ((s : ℕ) → s < m .states → at-least-as-good (v s) (round at-least-as-good mix m v s) ≡ true) →
       (k s : ℕ) → s < m .states → at-least-as-good (rounds at-least-as-good mix k m v s) (rounds at-least-as-good mix (suc k) m v s) ≡ true
   falling m l v b zero s p = b s p
@@ -172,6 +178,7 @@ module _ {V : Type 0} (at-least-as-good : V → V → Bool) (mix : ℕ → List 
   optimal k m v [] = 0
   optimal k m v (s ∷ h) = choose m (rounds at-least-as-good mix (k - length (s ∷ h)) m v) s .0
 
+  -- it is allowed
   pub optimal-allowed : (k : ℕ) (m : Mdp) → Lawful m → (v : ℕ → V) → Allowed m (optimal k m v)
   unfolding optimal
   optimal-allowed k m l v h s p = choose m (rounds at-least-as-good mix (k - length (s ∷ h)) m v) s .1 (l .some-choice s p) .0
@@ -185,10 +192,12 @@ module _ {V : Type 0} (at-least-as-good : V → V → Bool) (mix : ℕ → List 
       subst (λ x. mixed mix m (rounds at-least-as-good mix j m v) (row m s (choose m (rounds at-least-as-good mix x m v) s .0)) ≡ round at-least-as-good mix m (rounds at-least-as-good mix j m v) s)
       (sym e2) (choose m (rounds at-least-as-good mix j m v) s .1 (l .some-choice s p) .1)
 
+  -- rows with the same values at the states
   valued-same : (n : ℕ) (f g : ℕ → V) (r : Row) → Within n r → ((t : ℕ) → t < n → f t ≡ g t) → valued f r ≡ valued g r
   valued-same n f g [] w e = refl
   valued-same n f g (b ∷ bs) w e = rw (e (b .target) (w .0), valued-same n f g bs (w .1) e)
 
+  -- its value is what the rounds give
   pub optimal-value : (k : ℕ) (m : Mdp) → Lawful m → (v : ℕ → V) (j : ℕ) (h : List ℕ) (s : ℕ) → j + length h ≡ k → s < m .states →
       value mix j m v (optimal k m v) h s ≡ rounds at-least-as-good mix j m v s
   optimal-value k m l v zero h s e p = refl
@@ -203,6 +212,7 @@ module _ {V : Type 0} (at-least-as-good : V → V → Bool) (mix : ℕ → List 
       (σ : Adversary) × Allowed m σ × (value mix k m v σ [] s ≡ rounds at-least-as-good mix k m v s)
   some-adversary m l v k s p = (optimal k m v, optimal-allowed k m l v, optimal-value k m l v k [] s (add-zero k) p)
 
+  -- and none is better
   pub no-adversary : (m : Mdp) → Lawful m → (v : ℕ → V) (k s : ℕ) → s < m .states → (σ : Adversary) → Allowed m σ →
       at-least-as-good (rounds at-least-as-good mix k m v s) (value mix k m v σ [] s) ≡ true
   no-adversary m l v k s p σ a = none-better m l v σ a k [] s p

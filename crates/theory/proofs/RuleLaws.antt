@@ -12,14 +12,17 @@ use borrow.Author.Tests.{leb-true, leb-false, le-leb}
 use Rattle.theory.specs.Rules.{RuleLaws, total-weight}
 use Rattle.theory.specs.Mixes.{Rules-lawful, sum-of, mix-down, mix-up, mix-marks, greater, lesser, yes-first, no-first}
 
+-- a greater value makes the sum no smaller
 pub sum-better : (before after : List (ℕ × ℕ)) (w x y : ℕ) → y ≤ x → sum-of (before ++ ((w, y) ∷ after)) ≤ sum-of (before ++ ((w, x) ∷ after))
 sum-better [] after w x y h = let k = mul-le-mul-left w h in omega arith
 sum-better (p ∷ ps) after w x y h = let k = sum-better ps after w x y h in omega arith
 
+-- nor the quotient
 pub div-mono : (d a b : ℕ) → a ≤ b → a / d ≤ b / d
 div-mono zero a b h = rw (div-zero a, div-zero b) (le-refl 0)
 div-mono (suc d) a b h = le-div-iff-mul-le {k = suc d} (omega arith) .1 (le-trans (div-mul-le-self a (suc d)) h)
 
+-- of two numbers one is at most the other
 leb-total : (x y : ℕ) → (leb x y ≡ true) ⊎ (leb y x ≡ true)
 leb-total x y = go (leb x y) refl
   where
@@ -29,6 +32,7 @@ leb-total x y = go (leb x y) refl
 
 module _ (mix : ℕ → List (ℕ × ℕ) → ℕ)
     (mono : (d : ℕ) (before after : List (ℕ × ℕ)) (w x y : ℕ) → y ≤ x → mix d (before ++ ((w, y) ∷ after)) ≤ mix d (before ++ ((w, x) ∷ after))) where
+  -- a mix that grows with its values is lawful with the greater preferred
   pub greater-laws : RuleLaws greater mix
   greater-laws = record {
     reflexive = λ x. le-leb x x (le-refl x);
@@ -38,6 +42,7 @@ module _ (mix : ℕ → List (ℕ × ℕ) → ℕ)
     monotone = λ d before after w x y e p. le-leb _ _ (mono d before after w x y (leb-true y x p));
   }
 
+  -- and with the lesser
   pub lesser-laws : RuleLaws lesser mix
   lesser-laws = record {
     reflexive = λ x. le-leb x x (le-refl x);
@@ -47,25 +52,32 @@ module _ (mix : ℕ → List (ℕ × ℕ) → ℕ)
     monotone = λ d before after w x y e p. le-leb _ _ (mono d before after w y x (leb-true x y p));
   }
 
+-- parts down grow
 down-mono : (d : ℕ) (before after : List (ℕ × ℕ)) (w x y : ℕ) → y ≤ x → mix-down d (before ++ ((w, y) ∷ after)) ≤ mix-down d (before ++ ((w, x) ∷ after))
 down-mono d before after w x y h = div-mono d _ _ (sum-better before after w x y h)
 
+-- parts up grow
 up-mono : (d : ℕ) (before after : List (ℕ × ℕ)) (w x y : ℕ) → y ≤ x → mix-up d (before ++ ((w, y) ∷ after)) ≤ mix-up d (before ++ ((w, x) ∷ after))
 up-mono d before after w x y h = let k = sum-better before after w x y h in
     div-mono d (sum-of (before ++ ((w, y) ∷ after)) + (d - 1)) (sum-of (before ++ ((w, x) ∷ after)) + (d - 1)) (omega arith)
 
+-- parts down, the greater preferred
 pub down-greater : RuleLaws greater mix-down
 down-greater = greater-laws mix-down down-mono
 
+-- parts down, the lesser preferred
 pub down-lesser : RuleLaws lesser mix-down
 down-lesser = lesser-laws mix-down down-mono
 
+-- parts up, the greater preferred
 pub up-greater : RuleLaws greater mix-up
 up-greater = greater-laws mix-up up-mono
 
+-- parts up, the lesser preferred
 pub up-lesser : RuleLaws lesser mix-up
 up-lesser = lesser-laws mix-up up-mono
 
+-- marks grow
 marks-mono : (d : ℕ) (before after : List (ℕ × Bool)) (w : ℕ) (x y : Bool) → yes-first x y ≡ true →
     yes-first (mix-marks d (before ++ ((w, x) ∷ after))) (mix-marks d (before ++ ((w, y) ∷ after))) ≡ true
 marks-mono d [] after w x y h = go x y (mix-marks d after) h
@@ -82,12 +94,14 @@ marks-mono d (p ∷ ps) after w x y h = go (p .1) (mix-marks d (ps ++ ((w, x) �
     go true x y h = refl
     go false x y h = h
 
+-- the two preferences of marks are each other turned round
 flip : (x y : Bool) → no-first x y ≡ yes-first y x
 flip true true = refl
 flip true false = refl
 flip false true = refl
 flip false false = refl
 
+-- marks, yes preferred
 pub marks-greater : RuleLaws yes-first mix-marks
 marks-greater = record {
   reflexive = r;
@@ -117,6 +131,7 @@ marks-greater = record {
     c false true = inr refl
     c false false = inl refl
 
+-- marks, no preferred
 pub marks-lesser : RuleLaws no-first mix-marks
 marks-lesser = record {
   reflexive = λ x. flip x x ∙ marks-greater .reflexive x;

@@ -22,10 +22,12 @@ abbrev over-targets : (ℕ → ℕ) → Row → ℕ
 over-targets f [] = 0
 over-targets f (b ∷ bs) = f (b .target) + over-targets f bs
 
+-- counts of two lists add up
 count-++ : (p : List ℕ → Bool) (xs ys : List Run) → count p (xs ++ ys) ≡ count p xs + count p ys
 count-++ p [] ys = omega arith
 count-++ p (x ∷ xs) ys = rw (count-++ p xs ys) (omega arith)
 
+-- a step in front changes no count
 count-step : (p : List ℕ → Bool) (s w : ℕ) (rs : List Run) → count p (map (step s w) rs) ≡ count (λ ss. p (s ∷ ss)) rs
 count-step p s w [] = refl
 count-step p s w (r ∷ rs) = rw (count-step p s w rs)
@@ -37,10 +39,12 @@ count-row p s f [] = refl
 count-row p s f (b ∷ bs) = count-++ p (map (step s (b .weight)) (f (b .target))) (gather (λ b. map (step s (b .weight)) (f (b .target))) bs)
     ∙ ap₂ _+_ (count-step p s (b .weight) (f (b .target))) (count-row p s f bs)
 
+-- nothing has no property
 count-none : (rs : List Run) → count (λ ss. false) rs ≡ 0
 count-none [] = refl
 count-none (r ∷ rs) = rw (count-none rs)
 
+-- nothing summed is nothing
 over-none-targets : (r : Row) → over-targets (λ t. 0) r ≡ 0
 over-none-targets [] = refl
 over-none-targets (b ∷ bs) = rw (over-none-targets bs)
@@ -114,6 +118,7 @@ later n low b all (c ∷ cs) h a e =
       later n (c .target + 1) b all cs (omega arith) (a .3) (e .1),
     )
 
+-- each branch of a lawful row is such
 branches : (n low : ℕ) (r : Row) → Ascends n low r → Each (IsBranch n r) r
 branches n low [] a = tt
 branches n low (b ∷ bs) a = (
@@ -132,6 +137,7 @@ step-path k m σ h s b r i x = record {
   weighs = ap₂ _*_ (sym (i .weighs)) (x .weighs);
 }
 
+-- so for a list of runs
 step-paths : (k : ℕ) (m : Mdp) (σ : Adversary) (h : List ℕ) (s : ℕ) (b : Branch) (rs : List Run) → IsBranch (m .states) (chosen m σ h s) b →
     Each (Is-path k m σ (s ∷ h) (b .target)) rs → Each (Is-path (suc k) m σ h s) (map (step s (b .weight)) rs)
 step-paths k m σ h s b [] i e = tt

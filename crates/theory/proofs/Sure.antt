@@ -23,6 +23,13 @@ use Rattle.theory.proofs.Holding.{hold-lawful, unheld-allowed, unheld-row, rou
 use Rattle.theory.proofs.WithoutSteps.{or-no, spread-some, spread-where, positive-after, unmarked-not-right, closed, unmarked-none, held-lawful}
 use Rattle.theory.proofs.Powers.{pow-add, pow-times, enough}
 
+-- yes preferred: what is marked stays marked
+pub yes-first-yes : (x y : Bool) → yes-first x y ≡ true → y ≡ true → x ≡ true
+yes-first-yes true y e f = refl
+yes-first-yes false true e f = e
+yes-first-yes false false e f = f
+
+-- the runs with a property and those without it weigh what all do
 pub weigh-split : (p : List ℕ → Bool) (rs : List Run) → weigh p rs + weigh (λ ss. not (p ss)) rs ≡ weigh (λ ss. true) rs
 weigh-split p [] = refl
 weigh-split p (r ∷ rs) = go (p (r .states)) (weigh-split p rs)
@@ -32,9 +39,11 @@ weigh-split p (r ∷ rs) = go (p (r .states)) (weigh-split p rs)
     go true i = omega arith
     go false i = omega arith
 
+-- one more and one less
 suc-one : (b : ℕ) → suc b - 1 ≡ b
 suc-one b = omega arith
 
+-- a part that stays missing contradicts being sure
 too-many : (c x t u : ℕ) → 1 ≤ x → t + u ≡ x → x ≤ u * c → (suc c - 1) * x ≤ suc c * t → ⊥
 too-many c x t u h e f g =
     let w : c * (t + u) ≤ suc c * t = rw (suc-one c, ← e) at g in
@@ -47,18 +56,22 @@ pub miss : (ℕ → Bool) → (ℕ → Bool) → ℕ → Mdp → Adversary → L
 miss left right k m σ h s = weigh (λ ss. not (meets left right ss)) (runs k m σ h s)
 
 module _ (left right : ℕ → Bool) (m : Mdp) (l : Lawful m) (σ : Adversary) (a : Allowed m σ) where
+  -- tally and miss are all of D ^ k
   pub miss-rest : (k : ℕ) (h : List ℕ) (s : ℕ) → s < m .states → tally-after left right k m σ h s + miss left right k m σ h s ≡ m .denominator ^ k
   unfolding miss
   miss-rest k h s p = weigh-split (meets left right) (runs k m σ h s) ∙ weigh-all m l σ a k h s p
 
+  -- in right nothing misses
   pub miss-right : (k : ℕ) (h : List ℕ) (s : ℕ) → right s ≡ true → miss left right k m σ h s ≡ 0
   unfolding miss
   miss-right k h s r = runs-of (λ ss. not (meets left right ss)) false k m σ h s (λ ss. rw r) ∙ weigh-none (runs k m σ h s)
 
+  -- elsewhere, without a step, the one run misses
   pub miss-none : (h : List ℕ) (s : ℕ) → right s ≡ false → miss left right 0 m σ h s ≡ 1
   unfolding miss
   miss-none h s r = rw (r, and-false (left s))
 
+  -- in left only: the sum over the row taken
   pub miss-on : (k : ℕ) (h : List ℕ) (s : ℕ) → right s ≡ false → left s ≡ true →
       miss left right (suc k) m σ h s ≡ spread (miss left right k m σ (s ∷ h)) (chosen m σ h s)
   unfolding miss
@@ -71,11 +84,6 @@ module _ (left right : ℕ → Bool) (m : Mdp) (l : Lawful m) (k : ℕ) (settled
       ((t : ℕ) → t < n → f t ≡ false → v t ≡ true) → mix-marks d (valued v r) ≡ true
   all-some n d f v [] h w e g = absurd (omega arith)
   all-some n d f v (b ∷ bs) h w e g = rw (g (b .target) (w .0) (or-no (f (b .target)) (mix-marks d (valued f bs)) e .0))
-
-  yes-first-yes : (x y : Bool) → yes-first x y ≡ true → y ≡ true → x ≡ true
-  yes-first-yes true y e f = refl
-  yes-first-yes false true e f = e
-  yes-first-yes false false e f = f
 
   -- what is bad stays marked
   pub unmarked-stays : (i s : ℕ) → s < m .states → all-marks left right m right k s ≡ false → some-marks left right m (unmarked left right m k) i s ≡ true
@@ -151,6 +159,7 @@ module _ (left right : ℕ → Bool) (m : Mdp) (l : Lawful m) (k : ℕ) (settled
         (optimal yes-first mix-marks marks-greater j (held left right m) (unmarked left right m k) (s ∷ h))
         (choose no-first mix-marks marks-lesser (held left right m) (all-marks left right m right k) s .0)
 
+    -- it is allowed in the held model
     avoider-allowed : Allowed (held left right m) avoider
     unfolding avoider
     avoider-allowed h s p = elim (which (all-marks left right m right k s)) [
@@ -158,20 +167,24 @@ module _ (left right : ℕ → Bool) (m : Mdp) (l : Lawful m) (k : ℕ) (settled
       | inr e ↦ rw e (choose no-first mix-marks marks-lesser (held left right m) (all-marks left right m right k) s .1 (held-lawful left right m l .some-choice s p) .0)
     ]
 
+    -- among the unmarked it stays
     avoider-lingers : (h : List ℕ) (s : ℕ) → s < m .states → all-marks left right m right k s ≡ false →
         mixed mix-marks (held left right m) (all-marks left right m right k) (chosen (held left right m) avoider h s) ≡ false
     unfolding avoider
     avoider-lingers h s p e = rw e (choose no-first mix-marks marks-lesser (held left right m) (all-marks left right m right k) s .1 (held-lawful left right m l .some-choice s p) .1 ∙ settled s p ∙ e)
 
+    -- elsewhere it makes for them
     avoider-makes : (i : ℕ) (h : List ℕ) (s : ℕ) → suc i + length h ≡ j → s < m .states → all-marks left right m right k s ≡ true →
         mixed mix-marks (held left right m) (some-marks left right m (unmarked left right m k) i) (chosen (held left right m) avoider h s)
         ≡ some-marks left right m (unmarked left right m k) (suc i) s
     unfolding avoider
     avoider-makes i h s x p e = rw e (optimal-row yes-first mix-marks marks-greater j (held left right m) (held-lawful left right m l) (unmarked left right m k) i h s x p)
 
+    -- it is allowed in the model
     avoider-unheld : Allowed m avoider
     avoider-unheld = unheld-allowed (stops left right) m l avoider avoider-allowed
 
+    -- from the unmarked everything misses
     unmarked-missed : (i : ℕ) (h : List ℕ) (s : ℕ) → s < m .states → all-marks left right m right k s ≡ false →
         (n : ℕ) → m .denominator ^ n ≤ miss left right n m avoider h s * m .denominator ^ i
     unmarked-missed i h s p f n =
@@ -184,6 +197,7 @@ module _ (left right : ℕ → Bool) (m : Mdp) (l : Lawful m) (k : ℕ) (settled
     held-still : (i s : ℕ) → s < m .states → stops left right s ≡ true → all-marks left right m right k s ≡ true → some-marks left right m (unmarked left right m k) i s ≡ false
     held-still i s p t f = rounds-stay yes-first mix-marks (stops left right) m or-false (unmarked left right m k) i s p t ∙ ap not f
 
+    -- on the way there at least one part in D ^ i misses for ever
     avoider-misses : (i : ℕ) (h : List ℕ) (s : ℕ) → i + length h ≡ j → s < m .states → some-marks left right m (unmarked left right m k) i s ≡ true →
         (n : ℕ) → m .denominator ^ n ≤ miss left right n m avoider h s * m .denominator ^ i
     avoider-misses zero h s x p e n = elim (which (all-marks left right m right k s)) [
@@ -216,6 +230,7 @@ module _ (left right : ℕ → Bool) (m : Mdp) (l : Lawful m) (k : ℕ) (settled
       | inr f ↦ unmarked-missed (suc i) h s p f (suc n)
     ]
 
+    -- so it is not sure
     unsure : (s : ℕ) → s < m .states → some-marks left right m (unmarked left right m k) j s ≡ true → ¬ (Sure left right m avoider s)
     unsure s p e f =
         let d = m .denominator in

@@ -21,6 +21,7 @@ use Rattle.theory.proofs.RuleLaws.{marks-greater, marks-lesser}
 use Rattle.theory.proofs.Tallies.{spread, spread-mul, spread-le, spread-const, tally-right, tally-out, tally-none, tally-on, weigh-suc, runs-of, weigh-all, weigh-none}
 use Rattle.theory.proofs.Holding.{hold-lawful, unheld-allowed, lifted, lifted-allowed, lifted-row, unheld-row, stay, rounds-stay, Kind, reached, lost, under-way, kind}
 
+-- neither is true
 pub or-no : (x y : Bool) → (x || y) ≡ false → (x ≡ false) × (y ≡ false)
 or-no true y e = true-not-false true refl e
 or-no false y e = (refl, e)
@@ -44,6 +45,7 @@ spread-where n d v f g (b ∷ bs) w e h =
     let i = spread-where n d v f g bs (w .1) (o .1) h in
     omega arith
 
+-- so the sum is 0
 pub spread-zero : (n d : ℕ) (v : ℕ → Bool) (f : ℕ → ℕ) (r : Row) → Within n r → mix-marks d (valued v r) ≡ false →
     ((t : ℕ) → t < n → v t ≡ false → f t ≡ 0) → spread f r ≡ 0
 spread-zero n d v f r w e h =
@@ -53,9 +55,11 @@ spread-zero n d v f r w e h =
 
 module _ (left right : ℕ → Bool) (m : Mdp) (l : Lawful m) (σ τ : Adversary) (a : Allowed m σ) (b : Allowed (held left right m) τ)
     (agree : (h : List ℕ) (s : ℕ) → stops left right s ≡ false → chosen (held left right m) τ h s ≡ chosen m σ h s) where
+  -- a held state keeps its mark
   keep : (k : ℕ) (h : List ℕ) (s : ℕ) → s < m .states → stops left right s ≡ true → value mix-marks k (held left right m) right τ h s ≡ right s
   keep = stay (stops left right) m mix-marks or-false right τ b
 
+  -- an adversary whose mark is yes has a tally above 0
   pub value-yes : (k : ℕ) (h : List ℕ) (s : ℕ) → s < m .states → value mix-marks k (held left right m) right τ h s ≡ true → 0 < tally-after left right k m σ h s
   value-yes zero h s p e = rw (tally-right left right m l σ a 0 h s p e) (one-le-pow 0 (m .denominator) (l .some-unit))
   value-yes (suc k) h s p e = elim (kind left right s) [
@@ -68,9 +72,11 @@ module _ (left right : ℕ → Bool) (m : Mdp) (l : Lawful m) (σ τ : Adversary
 
 -- with the lesser preferred, what is marked has a tally above 0, whatever came before
 module _ (left right : ℕ → Bool) (m : Mdp) (l : Lawful m) where
+  -- the held model is lawful
   pub held-lawful : Lawful (held left right m)
   held-lawful = hold-lawful (stops left right) m l
 
+  -- so every adversary has
   pub positive-after : (k : ℕ) (σ : Adversary) → Allowed m σ → (h : List ℕ) (s : ℕ) → s < m .states → all-marks left right m right k s ≡ true → 0 < tally-after left right k m σ h s
   positive-after k σ a h s p e =
       let τ = lifted (stops left right) m σ in
@@ -78,6 +84,7 @@ module _ (left right : ℕ → Bool) (m : Mdp) (l : Lawful m) where
       value-yes left right m l σ τ a b (lifted-row (stops left right) m σ) k h s p
       (rw e at (none-better no-first mix-marks marks-lesser (held left right m) held-lawful right τ b k h s p))
 
+  -- what is not marked is not in right
   pub unmarked-not-right : (k s : ℕ) → s < m .states → all-marks left right m right k s ≡ false → right s ≡ false
   unmarked-not-right k s p e = elim (which (right s)) [
     | inl r ↦ true-not-false (right s) r (sym (rounds-stay no-first mix-marks (stops left right) m or-false right k s p (rw r)) ∙ e)
@@ -91,6 +98,7 @@ module _ (left right : ℕ → Bool) (m : Mdp) (l : Lawful m) where
     | inr r ↦ r
   ]
 
+  -- yes preferred: where the best is no, all are
   pub yes-first-no : (x y : Bool) → yes-first x y ≡ true → x ≡ false → y ≡ false
   yes-first-no true y e f = true-not-false true refl f
   yes-first-no false true e f = true-not-false false e refl
@@ -105,6 +113,7 @@ module _ (left right : ℕ → Bool) (m : Mdp) (l : Lawful m) where
       (round-best yes-first mix-marks marks-greater (held left right m) (some-marks left right m from k) s (lifted (stops left right) m σ (s ∷ h))
       (lifted-allowed (stops left right) m σ a h s p)) (settled s p ∙ e))
 
+  -- so its tally is 0 for every number of steps
   pub never-after : (k : ℕ) → Settled m (some-marks left right m right) k → (σ : Adversary) → Allowed m σ →
       (j : ℕ) (h : List ℕ) (s : ℕ) → s < m .states → some-marks left right m right k s ≡ false → tally-after left right j m σ h s ≡ 0
   never-after k settled σ a zero h s p e = tally-none left right m l σ a h s (unmarked-not-right′ k s p e)
@@ -116,6 +125,7 @@ module _ (left right : ℕ → Bool) (m : Mdp) (l : Lawful m) where
         (row-within m l s (σ (s ∷ h)) (a h s p)) (closed right k settled σ a h s p (rw (r, f)) e) (λ t q x. never-after k settled σ a j (s ∷ h) t q x)
   ]
 
+  -- never, exactly where the settled marks are no
   pub never-iff : (k : ℕ) → Settled m (some-marks left right m right) k → (s : ℕ) → s < m .states →
       (some-marks left right m right k s ≡ false) ↔ Never left right m s
   never-iff k settled s p = (λ e σ a j. never-after k settled σ a j [] s p e, back)
@@ -145,19 +155,23 @@ module _ (left right : ℕ → Bool) (m : Mdp) (l : Lawful m) where
           (row-within m l s (σ (s ∷ h)) (a h s p)) (rw (unheld-row (stops left right) m σ h s (rw (r, f))) at (go h s p e)) (λ t q x. unmarked-none σ a go j (s ∷ h) t q x)
     ]
 
+    -- the adversary that goes on among the unmarked
     lingerer : Adversary
     lingerer [] = 0
     lingerer (s ∷ h) = choose no-first mix-marks marks-lesser (held left right m) (all-marks left right m right k) s .0
 
+    -- it is allowed
     lingerer-allowed : Allowed (held left right m) lingerer
     unfolding lingerer
     lingerer-allowed h s p = choose no-first mix-marks marks-lesser (held left right m) (all-marks left right m right k) s .1 (held-lawful .some-choice s p) .0
 
+    -- and it does
     lingerer-goes : (h : List ℕ) (s : ℕ) → s < m .states → all-marks left right m right k s ≡ false →
         mixed mix-marks (held left right m) (all-marks left right m right k) (chosen (held left right m) lingerer h s) ≡ false
     unfolding lingerer
     lingerer-goes h s p e = choose no-first mix-marks marks-lesser (held left right m) (all-marks left right m right k) s .1 (held-lawful .some-choice s p) .1 ∙ settled s p ∙ e
 
+    -- positive, exactly where the settled marks are yes
     pub positive-iff : (s : ℕ) → s < m .states → (all-marks left right m right k s ≡ true) ↔ Positive left right m s
     positive-iff s p = (λ e σ a. (k, positive-after k σ a [] s p e), back)
       where
