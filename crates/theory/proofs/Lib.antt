@@ -19,3 +19,4 @@ pub mod Bridge
 pub mod Near
 pub mod Alike
 pub mod Judged
+pub mod Figures

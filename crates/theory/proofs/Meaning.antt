@@ -10,20 +10,22 @@ use Rattle.model.specs.Mdp.{Mdp, Lawful}
 use Rattle.theory.specs.Adversaries.{Adversary, Allowed}
 use Rattle.theory.specs.Tallies.{tally, next-tally, Sure}
 use Rattle.theory.specs.Rounds.{rounds}
-use Rattle.theory.specs.Mixes.{whole, greater, lesser}
+use Rattle.theory.specs.Mixes.{no-first, yes-first, whole, greater, lesser}
 use Rattle.theory.specs.WithoutSteps.{Marks-decide, Marks-settled, Positive, Never, Certain, all-marks, some-marks, unmarked, Extremal, over-none, at-most-none, at-least-whole, Without-steps, marked-set}
 use Rattle.theory.specs.Formulas.{PathFormula, PathHolds, probability, until-within, until, extremal, Under, Comparison, below, at-most, above, at-least, Formula, truth, label, negation, conjunction, next, Fits, SetOf, Holds, has-label}
 use Rattle.theory.specs.Verdicts.{fits}
 use Rattle.std.specs.declared.option.Option.{Option}
 use Rattle.std.specs.declared.option.Option.the-variants.{Some, None}
 use Rattle.theory.specs.Distances.{Harder}
+use Rattle.theory.specs.Ends.{held}
+use Rattle.theory.proofs.RuleLaws.{marks-greater, marks-lesser}
 use Rattle.theory.proofs.Lists.{true-not-false, which}
 use Rattle.theory.proofs.Exact.{mix-sum, one-in, best-tally, worst-tally, best-largest, best-reached, worst-smallest, worst-reached}
 use Rattle.theory.proofs.Between.{Subset, tally-below, next-below, next-largest, next-smallest, next-largest-is, next-smallest-is}
 use Rattle.theory.proofs.Compare.{fits-test, fits-harder, harder-times}
-use Rattle.theory.proofs.WithoutSteps.{positive-iff, never-iff}
+use Rattle.theory.proofs.WithoutSteps.{held-lawful, positive-iff, never-iff}
 use Rattle.theory.proofs.Sure.{certain-iff}
-use Rattle.theory.proofs.Settle.{all-settled, some-settled, unmarked-settled}
+use Rattle.theory.proofs.Settle.{settled-by, all-settled, some-settled, unmarked-settled}
 
 -- what is not, is false
 pub not-yes : (b : Bool) → not b ≡ true → b ≡ false
@@ -139,10 +141,15 @@ module _ (m : Mdp) (l : Lawful m) (s : ℕ) (p : s < m .states) where
 
 -- the marks decide
 pub marks-decide : Marks-decide
-marks-decide left right m l = (
-  record { all-settled = all-settled left right m l; some-settled = some-settled left right m l; unmarked-settled = unmarked-settled left right m l },
-  λ o s p. marked-iff m l s p o left right,
-)
+marks-decide left right m l =
+    let held-is = held-lawful left right m l in (
+      record {
+        all-settled = λ k h. settled-by no-first marks-lesser (held left right m) held-is right k (m .states, h, all-settled left right m l);
+        some-settled = λ k h. settled-by yes-first marks-greater (held left right m) held-is right k (m .states, h, some-settled left right m l);
+        unmarked-settled = λ k h. settled-by yes-first marks-greater (held left right m) held-is (unmarked left right m (m .states)) k (m .states, h, unmarked-settled left right m l);
+      },
+      λ o s p. marked-iff m l s p o left right,
+    )
 
 -- the set of an until without steps, by the bound that it stands under
 abbrev pub under-set : Option Extremal → (ℕ → Bool) → (ℕ → Bool) → Mdp → ℕ → Bool

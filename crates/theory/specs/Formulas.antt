@@ -38,7 +38,11 @@ extremal at-most b = cond (eqb b 0) (Some at-most-none) None
 extremal above b = cond (eqb b 0) (Some over-none) None
 extremal at-least b = cond (eqb b whole) (Some at-least-whole) None
 
--- a lawful formula: letters a to p, bounds up to the whole, at most 10,000 steps, and each until without steps under one of its three bounds
+-- an until may have at most so many steps
+abbrev pub most-steps : ℕ
+most-steps = 10000
+
+-- a lawful formula: letters a to p, bounds up to the whole, steps up to the limit, and each until without steps under one of its three bounds
 abbrev mutual
   pub LawfulFormula : Formula → Type 0
   LawfulFormula truth = Unit {0}
@@ -49,7 +53,7 @@ abbrev mutual
 
   pub LawfulPath : Comparison → ℕ → PathFormula → Type 0
   LawfulPath c b (next f) = LawfulFormula f
-  LawfulPath c b (until-within k f g) = (k ≤ 10000) × LawfulFormula f × LawfulFormula g
+  LawfulPath c b (until-within k f g) = (k ≤ most-steps) × LawfulFormula f × LawfulFormula g
   LawfulPath c b (until f g) = ((o : Extremal) × (extremal c b ≡ Some o)) × LawfulFormula f × LawfulFormula g
 
 -- x compares with y as the comparison says
@@ -68,7 +72,7 @@ abbrev pub Under : Option Extremal → (ℕ → Bool) → (ℕ → Bool) → Mdp
 Under None left right m s = ⊥
 Under (Some o) left right m s = Without-steps o left right m s
 
--- a set of labels has letter number i
+-- does the state s have letter number i?
 abbrev pub has-label : Mdp → ℕ → ℕ → Bool
 has-label m i s = getD (m .labels s) i false
 

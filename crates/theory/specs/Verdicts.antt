@@ -59,11 +59,11 @@ next-verdicts c b m v = read-off c b (next-lower (asked c) (v .sure) m) (next-up
 abbrev pub until-within-verdicts : Comparison → ℕ → ℕ → Mdp → VerdictSets → VerdictSets → VerdictSets
 until-within-verdicts c b k m v w = read-off c b (lower (asked c) (v .sure) (w .sure) k m) (upper (asked c) (v .possible) (w .possible) k m)
 
--- two verdict sets are the same on the states of a model
+-- two sets are the same on the states of a model
 abbrev pub Alike : Mdp → (ℕ → Bool) → (ℕ → Bool) → Type 0
 Alike m f g = (s : ℕ) → s < m .states → f s ≡ g s
 
--- both sets of two verdicts are
+-- two verdicts are: both their sets
 pub record SameVerdicts (m : Mdp) (v w : VerdictSets) : Type 0 where
   pub sures : Alike m (v .sure) (w .sure)
   pub possibles : Alike m (v .possible) (w .possible)
@@ -80,7 +80,8 @@ negated v = record { sure = λ s. not (v .possible s); possible = λ s. not (v .
 abbrev pub joined : VerdictSets → VerdictSets → VerdictSets
 joined v w = record { sure = λ s. v .sure s && w .sure s; possible = λ s. v .possible s && w .possible s }
 
--- until without steps, over verdicts v and w on its parts: a yes is where it holds on the sets that make it hardest, a no where it fails on those that make it easiest; larger sets help the first bound and the third, and hinder the second
+-- until without steps, over verdicts v and w on its parts: a yes is where it holds on the sets that make it hardest, a no where it fails on those that make it easiest
+-- larger sets help the first bound and the third, and hinder the second
 abbrev pub ExtremalJudged : Extremal → Mdp → VerdictSets → VerdictSets → VerdictSets → Type 0
 ExtremalJudged over-none m v w u =
     SetOf m (Without-steps over-none (v .sure) (w .sure) m) (u .sure) × SetOf m (Without-steps over-none (v .possible) (w .possible) m) (u .possible)

@@ -2,7 +2,7 @@
 use mathlib.Core.Path.{_≡_}
 use mathlib.Core.Bool.{Bool, true, not}
 use mathlib.Core.Logic.{_↔_}
-use Prim.Native.Nat.{ℕ, suc, _<_}
+use Prim.Native.Nat.{ℕ, suc, _≤_, _<_}
 use Rattle.model.specs.Mdp.{Mdp, Lawful}
 use Rattle.theory.specs.Adversaries.{Adversary, Allowed}
 use Rattle.theory.specs.Tallies.{tally, Sure}
@@ -56,11 +56,11 @@ marked-set over-none left right m s = all-marks left right m right (m .states) s
 marked-set at-most-none left right m s = not (some-marks left right m right (m .states) s)
 marked-set at-least-whole left right m s = not (some-marks left right m (unmarked left right m (m .states)) (m .states) s)
 
--- the three rounds of marks are settled by then
+-- the three rounds of marks are settled by then: no later round changes a mark
 pub record Marks-settled (left right : ℕ → Bool) (m : Mdp) : Type 0 where
-  pub all-settled : Settled m (all-marks left right m right) (m .states)
-  pub some-settled : Settled m (some-marks left right m right) (m .states)
-  pub unmarked-settled : Settled m (some-marks left right m (unmarked left right m (m .states))) (m .states)
+  pub all-settled : (k : ℕ) → m .states ≤ k → Settled m (all-marks left right m right) k
+  pub some-settled : (k : ℕ) → m .states ≤ k → Settled m (some-marks left right m right) k
+  pub unmarked-settled : (k : ℕ) → m .states ≤ k → Settled m (some-marks left right m (unmarked left right m (m .states))) k
 
 -- the theorem of marks: they settle within as many rounds as there are states, and then decide the untils without steps exactly
 abbrev pub Marks-decide : Type 0
