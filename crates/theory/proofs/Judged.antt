@@ -9,7 +9,7 @@ use Rattle.theory.specs.WithoutSteps.{Extremal, over-none, at-most-none, at-le
 use Rattle.theory.specs.Formulas.{Comparison, Formula, truth, label, negation, conjunction, probability, PathFormula, next, until-within, until, extremal, SetOf, Holds}
 use Rattle.theory.specs.Verdicts.{VerdictSets, Alike, SameVerdicts, known, negated, joined, next-verdicts, until-within-verdicts, ExtremalJudged, UntilJudged, Judged, PathJudged, One-verdict, Correct, Verdicts-correct}
 use Rattle.theory.specs.Distances.{Decided, Undecided, Until-near, Next-near, Without-steps-decided}
-use Rattle.theory.proofs.Meaning.{marked-iff, extreme, extreme-next}
+use Rattle.theory.proofs.Meaning.{marked-iff, hardest, hardest-next}
 use Rattle.theory.proofs.Found.{extremal-verdicts, until-verdicts, verdicts, path-verdicts}
 use Rattle.theory.proofs.Alike.{next-verdicts-alike, until-within-verdicts-alike, extremal-verdicts-alike}
 use Rattle.theory.proofs.Judge.{sound}
@@ -121,21 +121,21 @@ undecided-same m v w e s p u = record { not-sure = sym (e .sures s p) ∙ u .not
 pub until-near : Until-near
 until-near m l c b k f g v w u i j h x y s p z left right q r =
     let e = within-value m l s p c left right k in (
-      extreme c left right k m s,
+      hardest c left right k m s,
       e,
       formula-near m l c b k f g (decided-same m v (verdicts m f) (only-found m l f v i) x) (decided-same m w (verdicts m g) (only-found m l g w j) y) s p
           (undecided-same m u (verdicts m (probability c b (until-within k f g))) (only-found m l (probability c b (until-within k f g)) u h) s p z)
-          left right q r (extreme c left right k m s) e,
+          left right q r (hardest c left right k m s) e,
     )
 
 -- the same of a next
 pub next-is-near : Next-near
 next-is-near m l c b f v u i h x s p z set q =
     let e = next-value m l s p c set in (
-      extreme-next c set m s,
+      hardest-next c set m s,
       e,
       formula-next-near m l c b f (decided-same m v (verdicts m f) (only-found m l f v i) x) s p
-          (undecided-same m u (verdicts m (probability c b (next f))) (only-found m l (probability c b (next f)) u h) s p z) set q (extreme-next c set m s) e,
+          (undecided-same m u (verdicts m (probability c b (next f))) (only-found m l (probability c b (next f)) u h) s p z) set q (hardest-next c set m s) e,
     )
 
 -- an until without steps over decided parts is decided

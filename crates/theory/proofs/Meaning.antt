@@ -42,64 +42,64 @@ pub set-sub : (m : Mdp) (P : ℕ → Type 0) (f g : ℕ → Bool) → SetOf m P 
 set-sub m P f g x y s p e = y s p .1 (x s p .0 e)
 
 -- the tally that is hardest to fit
-abbrev pub extreme : Comparison → (ℕ → Bool) → (ℕ → Bool) → ℕ → Mdp → ℕ → ℕ
-extreme below left right k m s = best-tally left right k m s
-extreme at-most left right k m s = best-tally left right k m s
-extreme above left right k m s = worst-tally left right k m s
-extreme at-least left right k m s = worst-tally left right k m s
+abbrev pub hardest : Comparison → (ℕ → Bool) → (ℕ → Bool) → ℕ → Mdp → ℕ → ℕ
+hardest below left right k m s = best-tally left right k m s
+hardest at-most left right k m s = best-tally left right k m s
+hardest above left right k m s = worst-tally left right k m s
+hardest at-least left right k m s = worst-tally left right k m s
 
 -- the same for next
-abbrev pub extreme-next : Comparison → (ℕ → Bool) → Mdp → ℕ → ℕ
-extreme-next below set m s = rounds greater mix-sum 1 m (one-in set) s
-extreme-next at-most set m s = rounds greater mix-sum 1 m (one-in set) s
-extreme-next above set m s = rounds lesser mix-sum 1 m (one-in set) s
-extreme-next at-least set m s = rounds lesser mix-sum 1 m (one-in set) s
+abbrev pub hardest-next : Comparison → (ℕ → Bool) → Mdp → ℕ → ℕ
+hardest-next below set m s = rounds greater mix-sum 1 m (one-in set) s
+hardest-next at-most set m s = rounds greater mix-sum 1 m (one-in set) s
+hardest-next above set m s = rounds lesser mix-sum 1 m (one-in set) s
+hardest-next at-least set m s = rounds lesser mix-sum 1 m (one-in set) s
 
 module _ (m : Mdp) (l : Lawful m) (s : ℕ) (p : s < m .states) where
   -- no adversary is harder
-  pub extreme-bound : (c : Comparison) (left right : ℕ → Bool) (k : ℕ) (σ : Adversary) → Allowed m σ → Harder c (extreme c left right k m s) (tally left right k m σ s)
-  extreme-bound below left right k = best-largest left right m l k s p
-  extreme-bound at-most left right k = best-largest left right m l k s p
-  extreme-bound above left right k = worst-smallest left right m l k s p
-  extreme-bound at-least left right k = worst-smallest left right m l k s p
+  pub hardest-bound : (c : Comparison) (left right : ℕ → Bool) (k : ℕ) (σ : Adversary) → Allowed m σ → Harder c (hardest c left right k m s) (tally left right k m σ s)
+  hardest-bound below left right k = best-largest left right m l k s p
+  hardest-bound at-most left right k = best-largest left right m l k s p
+  hardest-bound above left right k = worst-smallest left right m l k s p
+  hardest-bound at-least left right k = worst-smallest left right m l k s p
 
   -- some adversary has it
-  pub extreme-is : (c : Comparison) (left right : ℕ → Bool) (k : ℕ) → (σ : Adversary) × Allowed m σ × (tally left right k m σ s ≡ extreme c left right k m s)
-  extreme-is below left right k = best-reached left right m l k s p
-  extreme-is at-most left right k = best-reached left right m l k s p
-  extreme-is above left right k = worst-reached left right m l k s p
-  extreme-is at-least left right k = worst-reached left right m l k s p
+  pub hardest-is : (c : Comparison) (left right : ℕ → Bool) (k : ℕ) → (σ : Adversary) × Allowed m σ × (tally left right k m σ s ≡ hardest c left right k m s)
+  hardest-is below left right k = best-reached left right m l k s p
+  hardest-is at-most left right k = best-reached left right m l k s p
+  hardest-is above left right k = worst-reached left right m l k s p
+  hardest-is at-least left right k = worst-reached left right m l k s p
 
   -- no adversary is harder
-  pub extreme-next-bound : (c : Comparison) (set : ℕ → Bool) (σ : Adversary) → Allowed m σ → Harder c (extreme-next c set m s) (next-tally set m σ s)
-  extreme-next-bound below set = next-largest set m l s p
-  extreme-next-bound at-most set = next-largest set m l s p
-  extreme-next-bound above set = next-smallest set m l s p
-  extreme-next-bound at-least set = next-smallest set m l s p
+  pub hardest-next-bound : (c : Comparison) (set : ℕ → Bool) (σ : Adversary) → Allowed m σ → Harder c (hardest-next c set m s) (next-tally set m σ s)
+  hardest-next-bound below set = next-largest set m l s p
+  hardest-next-bound at-most set = next-largest set m l s p
+  hardest-next-bound above set = next-smallest set m l s p
+  hardest-next-bound at-least set = next-smallest set m l s p
 
   -- some adversary has it
-  pub extreme-next-is : (c : Comparison) (set : ℕ → Bool) → (σ : Adversary) × Allowed m σ × (next-tally set m σ s ≡ extreme-next c set m s)
-  extreme-next-is below set = next-largest-is set m l s p
-  extreme-next-is at-most set = next-largest-is set m l s p
-  extreme-next-is above set = next-smallest-is set m l s p
-  extreme-next-is at-least set = next-smallest-is set m l s p
+  pub hardest-next-is : (c : Comparison) (set : ℕ → Bool) → (σ : Adversary) × Allowed m σ × (next-tally set m σ s ≡ hardest-next c set m s)
+  hardest-next-is below set = next-largest-is set m l s p
+  hardest-next-is at-most set = next-largest-is set m l s p
+  hardest-next-is above set = next-smallest-is set m l s p
+  hardest-next-is at-least set = next-smallest-is set m l s p
 
   -- all adversaries fit a bound exactly if the hardest tally does
-  pub next-iff : (c : Comparison) (b : ℕ) (set : ℕ → Bool) → (fits c (extreme-next c set m s * whole) (b * m .denominator ^ 1) ≡ true) ↔
+  pub next-iff : (c : Comparison) (b : ℕ) (set : ℕ → Bool) → (fits c (hardest-next c set m s * whole) (b * m .denominator ^ 1) ≡ true) ↔
       ((σ : Adversary) → Allowed m σ → Fits c (next-tally set m σ s * whole) (b * m .denominator ^ 1))
   next-iff c b set = (
-    λ e σ a. fits-harder c (extreme-next c set m s * whole) (next-tally set m σ s * whole) (b * m .denominator ^ 1)
-        (harder-times c (extreme-next c set m s) (next-tally set m σ s) whole (extreme-next-bound c set σ a)) (fits-test c _ _ .0 e),
-    λ h. let r = extreme-next-is c set in fits-test c (extreme-next c set m s * whole) (b * m .denominator ^ 1) .1 (rw (r .2) at (h (r .0) (r .1))),
+    λ e σ a. fits-harder c (hardest-next c set m s * whole) (next-tally set m σ s * whole) (b * m .denominator ^ 1)
+        (harder-times c (hardest-next c set m s) (next-tally set m σ s) whole (hardest-next-bound c set σ a)) (fits-test c _ _ .0 e),
+    λ h. let r = hardest-next-is c set in fits-test c (hardest-next c set m s * whole) (b * m .denominator ^ 1) .1 (rw (r .2) at (h (r .0) (r .1))),
   )
 
   -- the same of an until with steps
-  pub within-iff : (c : Comparison) (b k : ℕ) (left right : ℕ → Bool) → (fits c (extreme c left right k m s * whole) (b * m .denominator ^ k) ≡ true) ↔
+  pub within-iff : (c : Comparison) (b k : ℕ) (left right : ℕ → Bool) → (fits c (hardest c left right k m s * whole) (b * m .denominator ^ k) ≡ true) ↔
       ((σ : Adversary) → Allowed m σ → Fits c (tally left right k m σ s * whole) (b * m .denominator ^ k))
   within-iff c b k left right = (
-    λ e σ a. fits-harder c (extreme c left right k m s * whole) (tally left right k m σ s * whole) (b * m .denominator ^ k)
-        (harder-times c (extreme c left right k m s) (tally left right k m σ s) whole (extreme-bound c left right k σ a)) (fits-test c _ _ .0 e),
-    λ h. let r = extreme-is c left right k in fits-test c (extreme c left right k m s * whole) (b * m .denominator ^ k) .1 (rw (r .2) at (h (r .0) (r .1))),
+    λ e σ a. fits-harder c (hardest c left right k m s * whole) (tally left right k m σ s * whole) (b * m .denominator ^ k)
+        (harder-times c (hardest c left right k m s) (tally left right k m σ s) whole (hardest-bound c left right k σ a)) (fits-test c _ _ .0 e),
+    λ h. let r = hardest-is c left right k in fits-test c (hardest c left right k m s * whole) (b * m .denominator ^ k) .1 (rw (r .2) at (h (r .0) (r .1))),
   )
 
   -- equal sets give equal tallies of a next
@@ -192,7 +192,7 @@ mutual
   -- a path formula has a set, by those of its parts
   pub path-decided : (m : Mdp) → Lawful m → (c : Comparison) (b : ℕ) (p : PathFormula) → (set : ℕ → Bool) × SetOf m (PathHolds m c b p) set
   path-decided m l c b (next f) = let r = decided m l f in (
-    λ s. fits c (extreme-next c (r .0) m s * whole) (b * m .denominator ^ 1),
+    λ s. fits c (hardest-next c (r .0) m s * whole) (b * m .denominator ^ 1),
     λ s p. (
       λ e set x σ a. rw (next-same m l s p set (r .0) (set-sub m (Holds m f) set (r .0) x (r .1)) (set-sub m (Holds m f) (r .0) set (r .1) x) σ a)
           (next-iff m l s p c b (r .0) .0 e σ a),
@@ -200,7 +200,7 @@ mutual
     ),
   )
   path-decided m l c b (until-within k f g) = let r = decided m l f in let q = decided m l g in (
-    λ s. fits c (extreme c (r .0) (q .0) k m s * whole) (b * m .denominator ^ k),
+    λ s. fits c (hardest c (r .0) (q .0) k m s * whole) (b * m .denominator ^ k),
     λ s p. (
       λ e left right x y σ a. rw (tally-same m l s p left (r .0) right (q .0) (set-sub m (Holds m f) left (r .0) x (r .1)) (set-sub m (Holds m f) (r .0) left (r .1) x)
           (set-sub m (Holds m g) right (q .0) y (q .1)) (set-sub m (Holds m g) (q .0) right (q .1) y) k σ a)

@@ -15,7 +15,7 @@ use Rattle.theory.specs.Ends.{Close, start, lower, upper}
 use Rattle.theory.specs.WithoutSteps.{Extremal, over-none, at-most-none, at-least-whole}
 use Rattle.theory.specs.Formulas.{One-set, probability, until-within, until, extremal, Under, Comparison, below, at-most, above, at-least, Formula, next, SetOf, Holds}
 use Rattle.theory.specs.Verdicts.{asked, easier-end, VerdictSets, next-verdicts, until-within-verdicts, known}
-use Rattle.theory.specs.Distances.{Queries-correct, Harder, Extreme, Within-units, Decided, Undecided}
+use Rattle.theory.specs.Distances.{Queries-correct, Harder, State-value, Within-units, Decided, Undecided}
 use Rattle.std.specs.declared.option.Option.{Option}
 use Rattle.std.specs.declared.option.Option.the-variants.{Some, None}
 use Rattle.theory.proofs.Found.{until-verdicts, extremal-verdicts, verdicts}
@@ -23,7 +23,7 @@ use Rattle.theory.proofs.Lists.{true-not-false, which}
 use Rattle.theory.proofs.RuleLaws.{up-greater, up-lesser}
 use Rattle.theory.proofs.Ends.{best-some, worst-some, best-close, worst-close, greater-close, lesser-close, rounds-close}
 use Rattle.theory.proofs.Alike.{held-alike, next-alike, marked-alike}
-use Rattle.theory.proofs.Meaning.{decided, extreme, extreme-next, extreme-bound, extreme-is, extreme-next-bound, extreme-next-is}
+use Rattle.theory.proofs.Meaning.{decided, hardest, hardest-next, hardest-bound, hardest-is, hardest-next-bound, hardest-next-is}
 use Rattle.theory.proofs.Judge.{end-fails, until-within-correct, Among, sound, among, best-yes, best-no, worst-yes, worst-no, next-best-yes, next-best-no, next-worst-yes, next-worst-no}
 
 -- one set
@@ -83,7 +83,7 @@ module _ (m : Mdp) (l : Lawful m) (s : ℕ) (p : s < m .states) (v w : VerdictSe
       (worst-yes m l s p v w left right f g k) (worst-no m l s p v w left right f g k)
 
   -- an undecided verdict over decided parts: the value lies within k units of the bound
-  pub within-near : (c : Comparison) → Undecided (until-within-verdicts c b k m v w) s → Extreme c m (λ σ. tally left right k m σ s) n → Within-units k b (m .denominator ^ k) n
+  pub within-near : (c : Comparison) → Undecided (until-within-verdicts c b k m v w) s → State-value c m (λ σ. tally left right k m σ s) n → Within-units k b (m .denominator ^ k) n
   within-near below u e = let i = ltb-false _ _ (u .not-sure) in let j = ltb-true _ _ (u .is-possible) in best-near (e .attained) (e .kept) (omega arith) (omega arith)
   within-near at-most u e = let i = leb-false _ _ (u .not-sure) in let j = leb-true _ _ (u .is-possible) in best-near (e .attained) (e .kept) (omega arith) (omega arith)
   within-near above u e = let i = ltb-false _ _ (u .not-sure) in let j = ltb-true _ _ (u .is-possible) in worst-near (e .attained) (e .kept) (omega arith) (omega arith)
@@ -107,7 +107,7 @@ module _ (m : Mdp) (l : Lawful m) (s : ℕ) (p : s < m .states) (v : VerdictSets
       (next-worst-yes m l s p v set f) (next-worst-no m l s p v set f)
 
   -- next: within one unit
-  pub next-near : (c : Comparison) → Undecided (next-verdicts c b m v) s → Extreme c m (λ σ. next-tally set m σ s) n → Within-units 1 b (m .denominator ^ 1) n
+  pub next-near : (c : Comparison) → Undecided (next-verdicts c b m v) s → State-value c m (λ σ. next-tally set m σ s) n → Within-units 1 b (m .denominator ^ 1) n
   next-near below u e = let i = ltb-false _ _ (u .not-sure) in let j = ltb-true _ _ (u .is-possible) in next-best-near (e .attained) (e .kept) (omega arith) (omega arith)
   next-near at-most u e = let i = leb-false _ _ (u .not-sure) in let j = leb-true _ _ (u .is-possible) in next-best-near (e .attained) (e .kept) (omega arith) (omega arith)
   next-near above u e = let i = ltb-false _ _ (u .not-sure) in let j = ltb-true _ _ (u .is-possible) in next-worst-near (e .attained) (e .kept) (omega arith) (omega arith)
@@ -116,7 +116,7 @@ module _ (m : Mdp) (l : Lawful m) (s : ℕ) (p : s < m .states) (v : VerdictSets
 -- of formulas: parts without a 2, and the sets of which they hold
 pub formula-near : (m : Mdp) → Lawful m → (c : Comparison) (b k : ℕ) (f g : Formula) → Decided m (verdicts m f) → Decided m (verdicts m g) →
     (s : ℕ) → s < m .states → Undecided (verdicts m (probability c b (until-within k f g))) s →
-    (left right : ℕ → Bool) → SetOf m (Holds m f) left → SetOf m (Holds m g) right → (n : ℕ) → Extreme c m (λ σ. tally left right k m σ s) n →
+    (left right : ℕ → Bool) → SetOf m (Holds m f) left → SetOf m (Holds m g) right → (n : ℕ) → State-value c m (λ σ. tally left right k m σ s) n →
     Within-units k b (m .denominator ^ k) n
 formula-near m l c b k f g x y s p u left right i j n e =
     within-near m l s p (verdicts m f) (verdicts m g) x y k left right
@@ -125,20 +125,20 @@ formula-near m l c b k f g x y s p u left right i j n e =
 -- and of a next
 pub formula-next-near : (m : Mdp) → Lawful m → (c : Comparison) (b : ℕ) (f : Formula) → Decided m (verdicts m f) →
     (s : ℕ) → s < m .states → Undecided (verdicts m (probability c b (next f))) s →
-    (set : ℕ → Bool) → SetOf m (Holds m f) set → (n : ℕ) → Extreme c m (λ σ. next-tally set m σ s) n →
+    (set : ℕ → Bool) → SetOf m (Holds m f) set → (n : ℕ) → State-value c m (λ σ. next-tally set m σ s) n →
     Within-units 1 b (m .denominator ^ 1) n
 formula-next-near m l c b f x s p u set i n e =
     next-near m l s p (verdicts m f) x set (among m (Holds m f) (verdicts m f) (λ t q. sound m l f t q) set i) b n c u e
 
 -- there is a value
 pub within-value : (m : Mdp) → Lawful m → (s : ℕ) → s < m .states → (c : Comparison) (left right : ℕ → Bool) (k : ℕ) →
-    Extreme c m (λ σ. tally left right k m σ s) (extreme c left right k m s)
-within-value m l s p c left right k = record { attained = extreme-is m l s p c left right k; kept = extreme-bound m l s p c left right k }
+    State-value c m (λ σ. tally left right k m σ s) (hardest c left right k m s)
+within-value m l s p c left right k = record { attained = hardest-is m l s p c left right k; kept = hardest-bound m l s p c left right k }
 
 -- and for next
 pub next-value : (m : Mdp) → Lawful m → (s : ℕ) → s < m .states → (c : Comparison) (set : ℕ → Bool) →
-    Extreme c m (λ σ. next-tally set m σ s) (extreme-next c set m s)
-next-value m l s p c set = record { attained = extreme-next-is m l s p c set; kept = extreme-next-bound m l s p c set }
+    State-value c m (λ σ. next-tally set m σ s) (hardest-next c set m s)
+next-value m l s p c set = record { attained = hardest-next-is m l s p c set; kept = hardest-next-bound m l s p c set }
 
 -- an until without steps over decided parts is decided
 pub extremal-decided : (m : Mdp) → Lawful m → (o : Option Extremal) (v w : VerdictSets) → Decided m v → Decided m w → Decided m (until-verdicts o m v w)
@@ -166,9 +166,9 @@ queries-correct c b k left right m l s p = record {
   yes-holds = until-within-correct m l s p (known left) (known right) left right (known-among m left) (known-among m right) k c b .yes-holds;
   no-fails = end-fails m l s p (λ σ. tally left right k m σ s) b k _ c (query-some c k left right m l s p);
   undecided-near = λ u. let e = within-value m l s p c left right k in (
-    extreme c left right k m s,
+    hardest c left right k m s,
     e,
-    within-near m l s p (known left) (known right) (λ t q. refl) (λ t q. refl) k left right (known-among m left) (known-among m right) b (extreme c left right k m s) c u e,
+    within-near m l s p (known left) (known right) (λ t q. refl) (λ t q. refl) k left right (known-among m left) (known-among m right) b (hardest c left right k m s) c u e,
   );
 }
 

@@ -18,7 +18,7 @@ Harder above x y = x ≤ y
 Harder at-least x y = x ≤ y
 
 -- a state's value is the tally that is hardest to fit, its worst for `>` and `>=`, else its best: some adversary has it and none is harder
-pub record Extreme (c : Comparison) (m : Mdp) (tallied : Adversary → ℕ) (x : ℕ) : Type 0 where
+pub record State-value (c : Comparison) (m : Mdp) (tallied : Adversary → ℕ) (x : ℕ) : Type 0 where
   pub attained : (σ : Adversary) × Allowed m σ × (tallied σ ≡ x)
   pub kept : (σ : Adversary) → Allowed m σ → Harder c x (tallied σ)
 
@@ -42,7 +42,7 @@ Until-near = (m : Mdp) → Lawful m → (c : Comparison) (b k : ℕ) (f g : Form
     Judged m f v → Judged m g w → Judged m (probability c b (until-within k f g)) u → Decided m v → Decided m w →
     (s : ℕ) → s < m .states → Undecided u s →
     (left right : ℕ → Bool) → SetOf m (Holds m f) left → SetOf m (Holds m g) right →
-    (x : ℕ) × Extreme c m (λ σ. tally left right k m σ s) x × Within-units k b (m .denominator ^ k) x
+    (x : ℕ) × State-value c m (λ σ. tally left right k m σ s) x × Within-units k b (m .denominator ^ k) x
 
 -- an undecided next over a decided part: the same within one unit
 abbrev pub Next-near : Type 0
@@ -50,7 +50,7 @@ Next-near = (m : Mdp) → Lawful m → (c : Comparison) (b : ℕ) (f : Formula) 
     Judged m f v → Judged m (probability c b (next f)) u → Decided m v →
     (s : ℕ) → s < m .states → Undecided u s →
     (set : ℕ → Bool) → SetOf m (Holds m f) set →
-    (x : ℕ) × Extreme c m (λ σ. next-tally set m σ s) x × Within-units 1 b (m .denominator ^ 1) x
+    (x : ℕ) × State-value c m (λ σ. next-tally set m σ s) x × Within-units 1 b (m .denominator ^ 1) x
 
 -- an until without steps over decided parts is decided
 abbrev pub Without-steps-decided : Type 0
@@ -65,7 +65,7 @@ query-verdicts c b k left right m = read-off c b (lower (asked c) left right k m
 pub record Query-verdict (c : Comparison) (b k : ℕ) (left right : ℕ → Bool) (m : Mdp) (s : ℕ) : Type 0 where
   pub yes-holds : query-verdicts c b k left right m .sure s ≡ true → (σ : Adversary) → Allowed m σ → Fits c (tally left right k m σ s * whole) (b * m .denominator ^ k)
   pub no-fails : query-verdicts c b k left right m .possible s ≡ false → (σ : Adversary) × Allowed m σ × ¬ (Fits c (tally left right k m σ s * whole) (b * m .denominator ^ k))
-  pub undecided-near : Undecided (query-verdicts c b k left right m) s → (x : ℕ) × Extreme c m (λ σ. tally left right k m σ s) x × Within-units k b (m .denominator ^ k) x
+  pub undecided-near : Undecided (query-verdicts c b k left right m) s → (x : ℕ) × State-value c m (λ σ. tally left right k m σ s) x × Within-units k b (m .denominator ^ k) x
 
 -- the theorem of a query's verdicts
 abbrev pub Queries-correct : Type 0
