@@ -6,18 +6,18 @@ use mathlib.Core.Logic.{inl, inr}
 use lib.Dec.{ltb}
 use borrow.Author.Tests.{ltb-true}
 use Prim.Native.Nat.{ℕ, _<_}
-use Rattle.model.specs.Mdp.{Mdp, Row, Lawful}
+use Rattle.model.specs.Mdp.{Mdp, Row, Lawful, hold, to}
 use Rattle.theory.proofs.Found.{extremal-verdicts}
 use Rattle.theory.proofs.Lists.{which}
 use Rattle.theory.specs.Rules.{RuleLaws}
 use Rattle.theory.specs.Rounds.{rounds}
 use Rattle.theory.specs.Mixes.{mix-down, mix-up, greater, lesser}
-use Rattle.theory.specs.Ends.{hold, held, stops, back, start}
+use Rattle.theory.specs.Ends.{held, stops, start}
 use Rattle.theory.specs.WithoutSteps.{Extremal, over-none, at-most-none, at-least-whole, marked-set}
 use Rattle.theory.specs.Formulas.{Comparison, below, at-most, above, at-least}
 use Rattle.theory.specs.Verdicts.{fits, VerdictSets, next-verdicts, until-within-verdicts, Alike, SameVerdicts}
 use Rattle.theory.proofs.RuleLaws.{down-greater, down-lesser, up-greater, up-lesser}
-use Rattle.theory.proofs.Holding.{hold-lawful}
+use Rattle.model.specs.HoldLaws.{hold-lawful}
 use Rattle.theory.proofs.Bridge.{rounds-same}
 use Rattle.theory.proofs.Between.{Subset}
 use Rattle.theory.proofs.Meaning.{marked-iff, without-steps-same}
@@ -27,7 +27,7 @@ pub hold-same : (m : Mdp) (f g : ℕ → Bool) → ((t : ℕ) → t < m .states 
 hold-same m f g h =
     ap (λ (c : ℕ → List Row). record { states = m .states; denominator = m .denominator; labels = m .labels; choices = c }) (fun-ext same)
   where
-    same : (s : ℕ) → cond (ltb s (m .states) && f s) (back m s ∷ []) (m .choices s) ≡ cond (ltb s (m .states) && g s) (back m s ∷ []) (m .choices s)
+    same : (s : ℕ) → cond (ltb s (m .states) && f s) ((to s (m .denominator) ∷ []) ∷ []) (m .choices s) ≡ cond (ltb s (m .states) && g s) ((to s (m .denominator) ∷ []) ∷ []) (m .choices s)
     same s = elim (which (ltb s (m .states))) [
       | inl e ↦ rw (h s (ltb-true s (m .states) e))
       | inr e ↦ rw e

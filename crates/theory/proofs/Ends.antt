@@ -9,17 +9,18 @@ use native.Mathlib.Omega.{arith}
 use lib.Dec.{leb}
 use lib.ListN.{length}
 use borrow.Author.Tests.{leb-true, leb-false}
-use Rattle.model.specs.Mdp.{Mdp, Row, Lawful, LawfulRow, Each, total, row}
+use Rattle.model.specs.Mdp.{Mdp, Row, Lawful, LawfulRow, Each, total, row, hold}
 use Rattle.theory.specs.Adversaries.{Adversary, Allowed, chosen}
 use Rattle.theory.specs.Tallies.{tally-after, tally}
 use Rattle.theory.specs.Rules.{RuleLaws, valued}
 use Rattle.theory.specs.Rounds.{most, most-of, mixed, value, round, rounds}
 use Rattle.theory.specs.Mixes.{whole, sum-of, mix-down, mix-up, greater, lesser}
-use Rattle.theory.specs.Ends.{Ends-bound, Best-ends, Worst-ends, Close, back, hold, held, stops, start, lower, upper}
+use Rattle.theory.specs.Ends.{Ends-bound, Best-ends, Worst-ends, Close, held, stops, start, lower, upper}
 use Rattle.theory.proofs.Rounds.{Within, row-lawful, row-within, ascends-within, some-adversary, no-adversary}
 use Rattle.theory.proofs.RuleLaws.{down-greater, down-lesser, up-greater, up-lesser, div-mono}
 use Rattle.theory.proofs.Tallies.{spread, spread-mul, spread-le, spread-add, tally-right, tally-out, tally-none, tally-on}
-use Rattle.theory.proofs.Holding.{hold-lawful, unheld-allowed, lifted, lifted-allowed, lifted-row, unheld-row, stay, Kind, reached, lost, under-way, kind}
+use Rattle.model.specs.HoldLaws.{hold-lawful}
+use Rattle.theory.proofs.Holding.{unheld-allowed, lifted, lifted-allowed, lifted-row, unheld-row, stay, Kind, reached, lost, under-way, kind}
 
 -- the sum over a row of values is the sum over the row
 pub sum-spread : (f : ℕ → ℕ) (r : Row) → sum-of (valued f r) ≡ spread f r

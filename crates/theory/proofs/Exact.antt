@@ -6,17 +6,18 @@ use Prim.Native.Nat.{ℕ, zero, suc, _+_, _*_, _^_, _≤_, _<_}
 use native.Mathlib.Nat.{pow-succ', pow-zero, mul-zero, add-zero, zero-mul}
 use native.Mathlib.Omega.{arith}
 use borrow.Author.Tests.{leb-true}
-use Rattle.model.specs.Mdp.{Mdp, Row, Lawful}
+use Rattle.model.specs.Mdp.{Mdp, Row, Lawful, hold}
 use Rattle.theory.specs.Adversaries.{Adversary, Allowed, chosen}
 use Rattle.theory.specs.Tallies.{tally-after, tally}
 use Rattle.theory.specs.Rules.{RuleLaws, valued}
 use Rattle.theory.specs.Rounds.{mixed, value, rounds}
 use Rattle.theory.specs.Mixes.{sum-of, greater, lesser}
-use Rattle.theory.specs.Ends.{back, hold, held, stops}
+use Rattle.theory.specs.Ends.{held, stops}
 use Rattle.theory.proofs.Rounds.{row-within, some-adversary, no-adversary}
 use Rattle.theory.proofs.RuleLaws.{sum-better, greater-laws, lesser-laws}
 use Rattle.theory.proofs.Tallies.{spread, spread-same, tally-right, tally-out, tally-none, tally-on}
-use Rattle.theory.proofs.Holding.{hold-lawful, unheld-allowed, lifted, lifted-allowed, lifted-row, unheld-row, stop-row, Kind, reached, lost, under-way, kind}
+use Rattle.model.specs.HoldLaws.{hold-lawful}
+use Rattle.theory.proofs.Holding.{unheld-allowed, lifted, lifted-allowed, lifted-row, unheld-row, stop-row, Kind, reached, lost, under-way, kind}
 use Rattle.theory.proofs.Ends.{sum-spread}
 
 -- the rule that only adds up

@@ -1,4 +1,4 @@
--- The held model is lawful, and what its adversaries do.
+-- What the adversaries of the held model do.
 use mathlib.Core.Path.{_≡_, refl, sym, ap, _∙_, subst}
 use mathlib.Core.List.{List, [], _∷_, map}
 use mathlib.Core.Bool.{Bool, true, false, _||_, _&&_, not, cond, and-false}
@@ -9,14 +9,14 @@ use native.Mathlib.Omega.{arith}
 use lib.Dec.{ltb}
 use lib.ListN.{length, getD}
 use borrow.Author.Tests.{lt-ltb, le-ltb, ltb-true, ltb-false}
-use Rattle.model.specs.Mdp.{Mdp, Row, Lawful, LawfulRow, Each, row}
+use Rattle.model.specs.Mdp.{Mdp, Row, Lawful, LawfulRow, Each, row, hold, to}
 use Rattle.theory.specs.Adversaries.{Adversary, Allowed, chosen}
 use Rattle.theory.specs.Rounds.{mixed, value, most-of, rounds}
-use Rattle.theory.specs.Ends.{back, hold, held, stops}
+use Rattle.theory.specs.Ends.{held, stops}
 
 module _ (stop : ℕ → Bool) (m : Mdp) where
   -- a held state: one row back to itself
-  pub hold-yes : (s : ℕ) → s < m .states → stop s ≡ true → hold stop m .choices s ≡ back m s ∷ []
+  pub hold-yes : (s : ℕ) → s < m .states → stop s ≡ true → hold stop m .choices s ≡ (to s (m .denominator) ∷ []) ∷ []
   hold-yes s p e = rw (lt-ltb s (m .states) p, e)
 
   -- any other: as below
@@ -26,31 +26,6 @@ module _ (stop : ℕ → Bool) (m : Mdp) where
   -- past the states nothing changes
   pub hold-past : (s : ℕ) → m .states ≤ s → hold stop m .choices s ≡ m .choices s
   hold-past s p = rw (le-ltb s (m .states) p)
-
-  -- the choices of a state, held or not
-  pub hold-cases : (P : List Row → Type 0) (s : ℕ) → (s < m .states → P (back m s ∷ [])) → P (m .choices s) → P (hold stop m .choices s)
-  hold-cases P s f g = go (ltb s (m .states)) (stop s) refl
-    where
-      go : (b c : Bool) → ltb s (m .states) ≡ b → P (cond (b && c) (back m s ∷ []) (m .choices s))
-      go true true e = f (ltb-true s (m .states) e)
-      go true false e = g
-      go false c e = g
-
-  -- a model with states held keeps the laws
-  pub hold-lawful : Lawful m → Lawful (hold stop m)
-  hold-lawful l = record {
-    some-state = l .some-state;
-    few-states = l .few-states;
-    some-unit = l .some-unit;
-    few-units = l .few-units;
-    some-choice = λ s p. hold-cases (λ cs. 1 ≤ length cs) s (λ q. le-refl 1) (l .some-choice s p);
-    few-choices = λ s. hold-cases (λ cs. length cs ≤ 2048) s (λ q. omega arith) (l .few-choices s);
-    rows = λ s. hold-cases (λ cs. Each (LawfulRow (m .states) (m .denominator)) cs) s
-        (λ q. (record { ascends = (zero-le, q, l .some-unit, tt); sums = add-zero (m .denominator) }, tt)) (l .rows s);
-    sixteen-letters = l .sixteen-letters;
-    none-past = λ s p. hold-past s p ∙ l .none-past s p;
-    no-labels-past = l .no-labels-past;
-  }
 
   -- what is allowed over the hold is allowed below it
   pub unheld-allowed : Lawful m → (σ : Adversary) → Allowed (hold stop m) σ → Allowed m σ
@@ -80,7 +55,7 @@ module _ (stop : ℕ → Bool) (m : Mdp) where
   lifted-row σ h s e = rw (hold-no s e, e)
 
   -- the row taken at a held state
-  pub stop-row : (σ : Adversary) → Allowed (hold stop m) σ → (h : List ℕ) (s : ℕ) → s < m .states → stop s ≡ true → chosen (hold stop m) σ h s ≡ back m s
+  pub stop-row : (σ : Adversary) → Allowed (hold stop m) σ → (h : List ℕ) (s : ℕ) → s < m .states → stop s ≡ true → chosen (hold stop m) σ h s ≡ to s (m .denominator) ∷ []
   stop-row σ a h s p e =
       let q : σ (s ∷ h) < 1 = rw (hold-yes s p e) at (a h s p) in
       let z : σ (s ∷ h) ≡ 0 = omega arith in

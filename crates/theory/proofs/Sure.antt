@@ -7,19 +7,20 @@ use Prim.Native.Nat.{ℕ, zero, suc, _+_, _*_, _-_, _^_, _≤_, _<_, zero-le, su
 use native.Mathlib.Nat.{le-refl, le-trans, le-of-eq, pow-succ', pow-zero, mul-le-mul-right, mul-le-mul-left, mul-le-mul, one-le-pow, zero-add, suc-add, add-zero, suc-mul, zero-mul, add-comm, le-mul-of-pos-right}
 use native.Mathlib.Omega.{arith}
 use lib.ListN.{length}
-use Rattle.model.specs.Mdp.{Mdp, Row, Lawful, LawfulRow, Ascends, total, row}
+use Rattle.model.specs.Mdp.{Mdp, Row, Lawful, LawfulRow, Ascends, total, row, hold}
 use Rattle.theory.specs.Adversaries.{Adversary, Allowed, chosen}
 use Rattle.theory.specs.Tallies.{Run, runs, meets, weigh, tally-after, tally, Sure}
 use Rattle.theory.specs.Rules.{valued}
 use Rattle.theory.specs.Rounds.{mixed, value, round, rounds}
 use Rattle.theory.specs.Mixes.{mix-marks, no-first, yes-first}
-use Rattle.theory.specs.Ends.{hold, held, stops}
+use Rattle.theory.specs.Ends.{held, stops}
 use Rattle.theory.specs.WithoutSteps.{Certain, all-marks, some-marks, unmarked, Settled}
 use Rattle.theory.proofs.Lists.{true-not-false, which}
 use Rattle.theory.proofs.Rounds.{Within, row-lawful, row-within, round-best, choose, optimal, optimal-allowed, optimal-row}
 use Rattle.theory.proofs.RuleLaws.{marks-greater, marks-lesser}
 use Rattle.theory.proofs.Tallies.{spread, spread-mul, weigh-suc, runs-of, weigh-all, weigh-none}
-use Rattle.theory.proofs.Holding.{hold-lawful, unheld-allowed, unheld-row, rounds-stay, Kind, reached, lost, under-way, kind}
+use Rattle.model.specs.HoldLaws.{hold-lawful}
+use Rattle.theory.proofs.Holding.{unheld-allowed, unheld-row, rounds-stay, Kind, reached, lost, under-way, kind}
 use Rattle.theory.proofs.WithoutSteps.{or-no, spread-some, spread-where, positive-after, unmarked-not-right, closed, unmarked-none, held-lawful}
 use Rattle.theory.proofs.Powers.{pow-add, pow-times, enough}
 

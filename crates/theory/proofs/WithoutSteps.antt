@@ -7,19 +7,20 @@ use Prim.Native.Nat.{ℕ, zero, suc, _+_, _*_, _-_, _^_, _≤_, _<_}
 use native.Mathlib.Nat.{le-refl, le-trans, le-of-eq, pow-succ', pow-zero, mul-le-mul-right, mul-le-mul-left, mul-le-mul, one-le-pow, zero-add, suc-add, not-suc-le-zero, suc-mul}
 use native.Mathlib.Omega.{arith}
 use lib.ListN.{length}
-use Rattle.model.specs.Mdp.{Mdp, Row, Lawful, LawfulRow, Ascends, total, row}
+use Rattle.model.specs.Mdp.{Mdp, Row, Lawful, LawfulRow, Ascends, total, row, hold}
 use Rattle.theory.specs.Adversaries.{Adversary, Allowed, chosen}
 use Rattle.theory.specs.Tallies.{runs, meets, weigh, tally-after, tally, Sure}
 use Rattle.theory.specs.Rules.{RuleLaws, valued}
 use Rattle.theory.specs.Rounds.{mixed, value, round, rounds}
 use Rattle.theory.specs.Mixes.{mix-marks, no-first, yes-first}
-use Rattle.theory.specs.Ends.{hold, held, stops}
+use Rattle.theory.specs.Ends.{held, stops}
 use Rattle.theory.specs.WithoutSteps.{Positive, Never, Certain, all-marks, some-marks, Settled}
 use Rattle.theory.proofs.Lists.{true-not-false, which}
 use Rattle.theory.proofs.Rounds.{Within, row-lawful, row-within, ascends-within, none-better, some-adversary, round-best, choose, optimal, optimal-allowed, optimal-row}
 use Rattle.theory.proofs.RuleLaws.{marks-greater, marks-lesser}
 use Rattle.theory.proofs.Tallies.{spread, spread-mul, spread-le, spread-const, tally-right, tally-out, tally-none, tally-on, weigh-suc, runs-of, weigh-all, weigh-none}
-use Rattle.theory.proofs.Holding.{hold-lawful, unheld-allowed, lifted, lifted-allowed, lifted-row, unheld-row, stay, rounds-stay, Kind, reached, lost, under-way, kind}
+use Rattle.model.specs.HoldLaws.{hold-lawful}
+use Rattle.theory.proofs.Holding.{unheld-allowed, lifted, lifted-allowed, lifted-row, unheld-row, stay, rounds-stay, Kind, reached, lost, under-way, kind}
 
 -- neither is true
 pub or-no : (x y : Bool) → (x || y) ≡ false → (x ≡ false) × (y ≡ false)

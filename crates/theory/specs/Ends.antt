@@ -3,24 +3,11 @@ use mathlib.Core.List.{[], _∷_}
 use mathlib.Core.Bool.{Bool, _||_, _&&_, not, cond}
 use Prim.Native.Nat.{ℕ, _+_, _*_, _^_, _≤_, _<_}
 use lib.Dec.{ltb}
-use Rattle.model.specs.Mdp.{Mdp, Row, Lawful, to}
+use Rattle.model.specs.Mdp.{Mdp, Lawful, hold}
 use Rattle.theory.specs.Adversaries.{Adversary, Allowed}
 use Rattle.theory.specs.Tallies.{tally, next-tally}
 use Rattle.theory.specs.Rounds.{rounds}
 use Rattle.theory.specs.Mixes.{whole, mix-down, mix-up, greater, lesser}
-
--- the row back to s with the whole denominator
-abbrev pub back : Mdp → ℕ → Row
-back m s = to s (m .denominator) ∷ []
-
--- the model in which each state of a set has one choice, back to itself
-abbrev pub hold : (ℕ → Bool) → Mdp → Mdp
-hold stop m = record {
-  states = m .states;
-  denominator = m .denominator;
-  labels = m .labels;
-  choices = λ s. cond (ltb s (m .states) && stop s) (back m s ∷ []) (m .choices s);
-}
 
 -- an until is settled at a state in right (it is met) and at one outside left (it fails)
 abbrev pub stops : (ℕ → Bool) → (ℕ → Bool) → ℕ → Bool
