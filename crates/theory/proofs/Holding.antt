@@ -1,18 +1,16 @@
 -- What the adversaries of the held model do.
-use mathlib.Core.Path.{_≡_, refl, sym, ap, _∙_, subst}
+use mathlib.Core.Path.{_≡_, refl, ap, _∙_}
 use mathlib.Core.List.{List, [], _∷_, map}
-use mathlib.Core.Bool.{Bool, true, false, _||_, _&&_, not, cond, and-false}
-use mathlib.Core.Logic.{_⊎_, inl, inr}
-use Prim.Native.Nat.{ℕ, zero, suc, _+_, _≤_, _<_, zero-le, suc-le-suc}
-use native.Mathlib.Nat.{le-refl, add-zero}
+use mathlib.Core.Bool.{Bool, true, false, not, cond, and-false}
+use Prim.Native.Nat.{ℕ, zero, suc, _<_}
 use native.Mathlib.Omega.{arith}
 use lib.Dec.{ltb}
-use lib.ListN.{length, getD}
-use borrow.Author.Tests.{lt-ltb, le-ltb, ltb-true, ltb-false}
-use Rattle.model.specs.Mdp.{Mdp, Row, Lawful, LawfulRow, Each, row, hold, to}
+use lib.ListN.{length}
+use borrow.Author.Tests.{lt-ltb}
+use Rattle.model.specs.Mdp.{Mdp, Lawful, row, hold, to}
 use Rattle.theory.specs.Adversaries.{Adversary, Allowed, chosen}
 use Rattle.theory.specs.Rounds.{mixed, value, most-of, rounds}
-use Rattle.theory.specs.Ends.{held, stops}
+use Rattle.theory.specs.Ends.{held}
 
 module _ (stop : ℕ → Bool) (m : Mdp) where
   -- a held state: one row back to itself
@@ -22,10 +20,6 @@ module _ (stop : ℕ → Bool) (m : Mdp) where
   -- any other: as below
   pub hold-no : (s : ℕ) → stop s ≡ false → hold stop m .choices s ≡ m .choices s
   hold-no s e = rw (e, and-false (ltb s (m .states)))
-
-  -- past the states nothing changes
-  pub hold-past : (s : ℕ) → m .states ≤ s → hold stop m .choices s ≡ m .choices s
-  hold-past s p = rw (le-ltb s (m .states) p)
 
   -- what is allowed over the hold is allowed below it
   pub unheld-allowed : Lawful m → (σ : Adversary) → Allowed (hold stop m) σ → Allowed m σ
