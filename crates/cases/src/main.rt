@@ -1,6 +1,8 @@
 // The cases of the model text: each line of the input has a name and a text, which is loaded into one table; what came
 // of it is printed. The expected output was worked out from the rules of the format without any of this code.
 // It may use the crates model, text and tables.
+#![tactic(auto)]
+
 mod escape;
 mod report;
 

@@ -1,4 +1,6 @@
 // The program: the console joined to arguments, files and streams. It may use the console crate.
+#![tactic(auto)]
+
 use console::answer::{path, reply};
 use console::reply::Reply;
 use std::io::Write;

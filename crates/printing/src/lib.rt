@@ -1,5 +1,7 @@
 // What is printed of a model and of a refusal: text out of values.
 // It may use the crates model, text, ladder and layers.
+#![tactic(auto)]
+
 pub mod caret;
 mod counts;
 mod drawn;

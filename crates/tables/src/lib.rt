@@ -1,5 +1,7 @@
 // The tables that hold a loaded model: a source of rows, with its text loaded and written.
 // It may use the model, text and flat crates; its proofs cite the laws of the text.
+#![tactic(auto)]
+
 pub mod copy;
 pub mod fresh;
 pub mod load;

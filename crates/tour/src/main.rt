@@ -1,5 +1,7 @@
 // A tour: every command, each kind of refusal and of wrong command line, and a held state, through the same library as
 // the program. It may use the console crate and those below it.
+#![tactic(auto)]
+
 use console::answer::{path, reply};
 use console::reply::Reply;
 use layers::hold::Hold;
