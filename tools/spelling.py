@@ -54,10 +54,10 @@ def generated(path):
 
 
 def kit_names(text):
-    """The names that a file takes from the kit's library."""
+    """The names that a file takes from the kit's libraries."""
     names = set()
-    for path, items in re.findall(r"use (Rattle[\w.+'-]*?)\.\{([^}]*)\}", text):
-        if path.split(".")[1] in ("std", "core"):
+    for path, items in re.findall(r"use ([A-Za-z][\w.+'-]*?)\.\{([^}]*)\}", text):
+        if not path.startswith("Rattle.") or path.split(".")[1] in ("std", "core"):
             names |= {w.split(" as ")[0].strip() for w in items.split(",")}
     return names
 

@@ -1,6 +1,6 @@
 -- A list that is copied over the front of another, element by element.
-use Rattle.std.proofs.Common.{◌≡◌, ℕ, ◌+◌, ◌<◌, ◌≤◌, min, List, [], ◌∷◌, ◌++◌, length, get_or, take, drop, set, sym, ap, ◌∙◌, ⊎_elim, append_assoc, arith, length-take}
-use lib.Seq.{take_append_seam}
+use Rattle.std.proofs.Common.{◌≡◌, ℕ, ◌+◌, ◌<◌, min, List, [], ◌∷◌, ◌++◌, length, get_or, take, drop, set, sym, ap, ◌∙◌, ⊎_elim, append_assoc, arith, length-take}
+use lib.Seq.{take-append_seam}
 use Rattle.std.proofs.lemmas.List.{take_more, drop_more, set_at, take_all, drop_all}
 use Rattle.std.proofs.lemmas.Bool.{cases_lt}
 use Rattle.model.specs.Mdp.{over}
@@ -31,4 +31,4 @@ module _ {X : Type 0} where
   pub front_over : (new xs : List X) (n : ℕ) → n ≡ min (length new) (length xs) → take n (over new xs) ≡ take (length xs) new
   front_over new xs n e =
       let all : n ≡ length (take (length xs) new) = simp length-take (omega arith) in
-      ap (λ k. take k (over new xs)) all ∙ take_append_seam (take (length xs) new) (drop (length new) xs)
+      ap (λ k. take k (over new xs)) all ∙ take-append_seam (take (length xs) new) (drop (length new) xs)

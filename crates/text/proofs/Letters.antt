@@ -1,6 +1,6 @@
 -- Which beginning of a field is a lawful set of labels, and which set it writes.
 use Rattle.std.proofs.Common.{◌≡◌, ℕ, zero, suc, ◌+◌, ◌-◌, ◌<◌, ◌≤◌, true, false, ◌&&◌, ◌||◌, eqb, leb, ◌⊎◌, List, [], ◌∷◌, ◌++◌, length, get_or, take, drop, set, sym, refl, ap, ◌∙◌, inl, inr, ⊎_elim, append_assoc, append-nil, arith}
-use mathlib.Core.Bool.{or_true, or_false, or_assoc}
+use mathlib.Core.Bool.{or-true, or-false, or_assoc}
 use Rattle.std.proofs.lemmas.List.{length-take-le, get_or-take, take_more, take-take, take-append-drop, drop_more}
 use Rattle.std.proofs.lemmas.Bool.{and_parts, and_from, and_left, and_right, or_from, or_cases, leb-true, le-leb, lt-leb, eqb-true, eq-eqb, ne_eqb, cases_lt, cases_eq}
 use Rattle.text.specs.Fields.{between, ascending, lawful_labels, among, flags_from, labels_of, longest}
@@ -98,17 +98,17 @@ labels_at (c ∷ cs) i t l no_dash =
 
 -- what is among the bytes, with one byte more
 among_push : (letter : ℕ) (xs : List ℕ) (c : ℕ) → among letter (xs ++ (c ∷ [])) ≡ (among letter xs || eqb c letter)
-among_push letter [] c = or_false (eqb c letter)
+among_push letter [] c = or-false (eqb c letter)
 among_push letter (x ∷ xs) c =
     ap (λ z. eqb x letter || z) (among_push letter xs c) ∙ sym (or_assoc (eqb x letter) (among letter xs) (eqb c letter))
 
 among_other : (letter : ℕ) (xs : List ℕ) (c : ℕ) → (c ≡ letter → ⊥) → among letter (xs ++ (c ∷ [])) ≡ among letter xs
 among_other letter xs c other =
-    among_push letter xs c ∙ ap (λ z. among letter xs || z) (ne_eqb c letter other) ∙ or_false (among letter xs)
+    among_push letter xs c ∙ ap (λ z. among letter xs || z) (ne_eqb c letter other) ∙ or-false (among letter xs)
 
 among_same : (letter : ℕ) (xs : List ℕ) (c : ℕ) → c ≡ letter → among letter (xs ++ (c ∷ [])) ≡ true
 among_same letter xs c same =
-    among_push letter xs c ∙ ap (λ z. among letter xs || z) (eq-eqb c letter same) ∙ or_true (among letter xs)
+    among_push letter xs c ∙ ap (λ z. among letter xs || z) (eq-eqb c letter same) ∙ or-true (among letter xs)
 
 -- a byte before the letters leaves their flags
 flags_before : (letter count : ℕ) (xs : List ℕ) (c : ℕ) → c < letter → flags_from letter count (xs ++ (c ∷ [])) ≡ flags_from letter count xs

@@ -1,7 +1,7 @@
 -- Larger sets never make a tally smaller; only the states count. Next.
 use Rattle.std.proofs.Common.{◌≡◌, ℕ, zero, suc, ◌+◌, ◌*◌, ◌^◌, ◌<◌, ◌≤◌, Bool, true, false, cond, ◌&&◌, ◌||◌, ◌⊎◌, List, [], ◌∷◌, sym, refl, ap, ◌∙◌, inl, inr, le_trans, le_of_eq, le_refl, add-zero, le_antisymm, arith, leb-true}
 use mathlib.Core.Path.{fun_ext}
-use native.Mathlib.Nat.{pow_succ', pow_zero}
+use native.Mathlib.Nat.{pow-succ', pow-zero}
 use Rattle.model.specs.Mdp.{Mdp, Row, Lawful, Each}
 use Rattle.theory.specs.Adversaries.{Adversary, Allowed, chosen}
 use Rattle.theory.specs.Tallies.{Run, runs, meets, weigh, tally_after, tally, second_in, next_tally}
@@ -22,7 +22,7 @@ Subset m f g = (s : ℕ) → s < m.states → f s ≡ true → g s ≡ true
 
 -- the first power
 pow_one : (d : ℕ) → d ^ 1 ≡ d
-pow_one d = pow_succ' d 0 ∙ rw (pow_zero d) (omega arith)
+pow_one d = pow-succ' d 0 ∙ rw (pow-zero d) (omega arith)
 
 module _ (m : Mdp) (l : Lawful m) (σ : Adversary) (a : Allowed m σ) where
   -- a property that implies another on paths through states weighs no more

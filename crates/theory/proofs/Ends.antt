@@ -1,6 +1,6 @@
 -- the ends after k rounds over the held model bound the tallies of the model itself.
 use Rattle.std.proofs.Common.{◌≡◌, ℕ, zero, suc, ◌+◌, ◌-◌, ◌*◌, ◌/◌, ◌^◌, ◌<◌, ◌≤◌, Bool, true, false, cond, not, ◌&&◌, ◌||◌, leb, ◌⊎◌, List, [], ◌∷◌, map, length, sym, refl, ap, ◌∙◌, subst, inl, inr, le_trans, le_of_eq, le_refl, mul-le-mul_right, div-lt_iff_lt-mul, div-mul-le_self, arith, leb-false, leb-true}
-use native.Mathlib.Nat.{pow_succ', pow_zero, mul_div_cancel_left, div_eq_of_lt_le}
+use native.Mathlib.Nat.{pow-succ', pow-zero, mul-div_cancel_left, div-eq_of_lt-le}
 use Rattle.model.specs.Mdp.{Mdp, Row, Lawful, LawfulRow, Each, total, row, hold}
 use Rattle.theory.specs.Adversaries.{Adversary, Allowed, chosen}
 use Rattle.theory.specs.Tallies.{tally_after, tally}
@@ -34,11 +34,11 @@ up_near_down d a b c h e =
 
 -- the row back to a state keeps its value, rounded down
 pub down_back : (d x : ℕ) → 1 ≤ d → mix_down d ((d, x) ∷ []) ≡ x
-down_back d x h = div_eq_of_lt_le d (omega arith) (omega arith)
+down_back d x h = div-eq_of_lt-le d (omega arith) (omega arith)
 
 -- and rounded up
 pub up_back : (d x : ℕ) → 1 ≤ d → mix_up d ((d, x) ∷ []) ≡ x
-up_back d x h = div_eq_of_lt_le d (omega arith) (omega arith)
+up_back d x h = div-eq_of_lt-le d (omega arith) (omega arith)
 
 module _ (left right : ℕ → Bool) (m : Mdp) (l : Lawful m) (σ τ : Adversary) (a : Allowed m σ) (b : Allowed (held left right m) τ)
     (agree : (h : List ℕ) (s : ℕ) → stops left right s ≡ false → chosen (held left right m) τ h s ≡ chosen m σ h s) where
@@ -54,7 +54,7 @@ module _ (left right : ℕ → Bool) (m : Mdp) (l : Lawful m) (σ τ : Adversary
   pub value_down : (k : ℕ) (h : List ℕ) (s : ℕ) → s < m.states →
       value mix_down k (held left right m) (start right) τ h s * m.denominator ^ k ≤ tally_after left right k m σ h s * whole
   value_down zero h s p = elim (kind left right s) [
-    | reached e ↦ rw e (omega (arith, pow_zero m.denominator))
+    | reached e ↦ rw e (omega (arith, pow-zero m.denominator))
     | lost e f ↦ rw e (omega arith)
     | under_way e f ↦ rw e (omega arith)
   ]
@@ -68,7 +68,7 @@ module _ (left right : ℕ → Bool) (m : Mdp) (l : Lawful m) (σ τ : Adversary
         let le = spread_le m.states (λ x. v x * m.denominator ^ k) (λ x. tally_after left right k m σ (s ∷ h) x * whole) r
         (row_within m l s (σ (s ∷ h)) (a h s p)) (λ x q. value_down k (s ∷ h) x q) in
         let d = mul-le-mul_right (m.denominator ^ k) (down_below m.denominator (spread v r)) in
-        rw (agree h s (rw (e, f)), sum_spread v r, t, pow_succ' m.denominator k)
+        rw (agree h s (rw (e, f)), sum_spread v r, t, pow-succ' m.denominator k)
         (omega (arith, spread_mul (m.denominator ^ k) v r, spread_mul whole (tally_after left right k m σ (s ∷ h)) r))
   ]
 
@@ -90,7 +90,7 @@ module _ (left right : ℕ → Bool) (m : Mdp) (l : Lawful m) (σ τ : Adversary
         let le = spread_le m.states (λ x. tally_after left right k m σ (s ∷ h) x * whole) (λ x. v x * m.denominator ^ k) r
         (row_within m l s (σ (s ∷ h)) (a h s p)) (λ x q. tally_up k (s ∷ h) x q) in
         let d = mul-le-mul_right (m.denominator ^ k) (up_above m.denominator (spread v r) l.some_unit) in
-        rw (agree h s (rw (e, f)), sum_spread v r, t, pow_succ' m.denominator k)
+        rw (agree h s (rw (e, f)), sum_spread v r, t, pow-succ' m.denominator k)
         (omega (arith, spread_mul (m.denominator ^ k) v r, spread_mul whole (tally_after left right k m σ (s ∷ h)) r))
   ]
 

@@ -1,6 +1,6 @@
 -- The largest and the smallest tally: the tally is the value under the rule that only adds up.
 use Rattle.std.proofs.Common.{◌≡◌, ℕ, zero, suc, ◌+◌, ◌*◌, ◌^◌, ◌<◌, ◌≤◌, Bool, true, false, cond, List, [], ◌∷◌, ◌++◌, sym, refl, ap, ◌∙◌, add-zero, mul-zero, zero-mul, arith, leb-true}
-use native.Mathlib.Nat.{pow_succ', pow_zero}
+use native.Mathlib.Nat.{pow-succ', pow-zero}
 use Rattle.model.specs.Mdp.{Mdp, Row, Lawful, hold}
 use Rattle.theory.specs.Adversaries.{Adversary, Allowed, chosen}
 use Rattle.theory.specs.Tallies.{tally_after, tally}
@@ -36,9 +36,9 @@ module _ (left right : ℕ → Bool) (m : Mdp) (l : Lawful m) (σ τ : Adversary
   -- a held state keeps its share
   keep_sum : (k : ℕ) (h : List ℕ) (s : ℕ) → s < m.states → stops left right s ≡ true →
       value mix_sum k (held left right m) (one_in right) τ h s ≡ m.denominator ^ k * one_in right s
-  keep_sum zero h s p e = rw (pow_zero m.denominator) (omega arith)
+  keep_sum zero h s p e = rw (pow-zero m.denominator) (omega arith)
   keep_sum (suc k) h s p e = ap (mixed mix_sum (held left right m) (value mix_sum k (held left right m) (one_in right) τ (s ∷ h))) (stop_row (stops left right) m τ b h s p e)
-      ∙ rw (keep_sum k (s ∷ h) s p e, pow_succ' m.denominator k) (omega arith)
+      ∙ rw (keep_sum k (s ∷ h) s p e, pow-succ' m.denominator k) (omega arith)
 
   -- an adversary's value under it is its tally
   pub value_sum : (k : ℕ) (h : List ℕ) (s : ℕ) → s < m.states → value mix_sum k (held left right m) (one_in right) τ h s ≡ tally_after left right k m σ h s

@@ -1,6 +1,6 @@
 -- What the adversaries of the held model do.
 use Rattle.std.proofs.Common.{◌≡◌, ℕ, zero, suc, ◌<◌, Bool, true, false, cond, not, ltb, List, [], ◌∷◌, map, length, refl, ap, ◌∙◌, arith, lt-ltb}
-use mathlib.Core.Bool.{and_false}
+use mathlib.Core.Bool.{and-false}
 use Rattle.model.specs.Mdp.{Mdp, Lawful, row, hold, to}
 use Rattle.theory.specs.Adversaries.{Adversary, Allowed, chosen}
 use Rattle.theory.specs.Rounds.{mixed, value, most_of, rounds}
@@ -13,7 +13,7 @@ module _ (stop : ℕ → Bool) (m : Mdp) where
 
   -- any other: as below
   pub hold_no : (s : ℕ) → stop s ≡ false → (hold stop m).choices s ≡ m.choices s
-  hold_no s e = rw (e, and_false (ltb s m.states))
+  hold_no s e = rw (e, and-false (ltb s m.states))
 
   -- what is allowed over the hold is allowed below it
   pub unheld_allowed : Lawful m → (σ : Adversary) → Allowed (hold stop m) σ → Allowed m σ

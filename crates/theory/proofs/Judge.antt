@@ -1,6 +1,6 @@
 -- The verdicts are right: yes states hold, and what holds is possible.
 use Rattle.std.proofs.Common.{◌≡◌, ℕ, zero, suc, ◌+◌, ◌*◌, ◌^◌, ◌<◌, ◌≤◌, Bool, true, false, not, ◌&&◌, ◌⊎◌, ◌↔◌, [], Some, None, Option, sym, refl, ap, ◌∙◌, inl, inr, le_trans, mul-le-mul_right}
-use native.Mathlib.Nat.{one_le_pow}
+use native.Mathlib.Nat.{one-le-pow}
 use Rattle.model.specs.Mdp.{Mdp, Lawful}
 use Rattle.theory.specs.Adversaries.{Adversary, Allowed}
 use Rattle.theory.specs.Tallies.{tally, next_tally}
@@ -30,12 +30,12 @@ module _ (m : Mdp) (l : Lawful m) (s : ℕ) (p : s < m.states) where
     end_yes : ((σ : Adversary) → Allowed m σ → Harder c (yes_end * m.denominator ^ k) (q σ * whole)) →
         fits c yes_end b ≡ true → (σ : Adversary) → Allowed m σ → Fits c (q σ * whole) (b * m.denominator ^ k)
     end_yes h e σ a = fits_harder c (yes_end * m.denominator ^ k) (q σ * whole) (b * m.denominator ^ k) (h σ a)
-        (fits_times c yes_end b (m.denominator ^ k) (one_le_pow k m.denominator l.some_unit) ((fits_test c yes_end b).0 e))
+        (fits_times c yes_end b (m.denominator ^ k) (one-le-pow k m.denominator l.some_unit) ((fits_test c yes_end b).0 e))
 
     -- where every value fits the bound, so does the end that some value keeps to
     end_no : (σ : Adversary) × Allowed m σ × Harder c (q σ * whole) (no_end * m.denominator ^ k) →
         ((σ : Adversary) → Allowed m σ → Fits c (q σ * whole) (b * m.denominator ^ k)) → fits c no_end b ≡ true
-    end_no r f = (fits_test c no_end b).1 (fits_part c no_end b (m.denominator ^ k) (one_le_pow k m.denominator l.some_unit)
+    end_no r f = (fits_test c no_end b).1 (fits_part c no_end b (m.denominator ^ k) (one-le-pow k m.denominator l.some_unit)
         (fits_harder c (q r.0 * whole) (no_end * m.denominator ^ k) (b * m.denominator ^ k) r.2 (f r.0 r.1)))
 
   -- where that end does not fit, some adversary does not
@@ -44,7 +44,7 @@ module _ (m : Mdp) (l : Lawful m) (s : ℕ) (p : s < m.states) where
   end_fails q b k no_end c r e = (
     r.0,
     r.1,
-    λ f. true_not_false (fits c no_end b) ((fits_test c no_end b).1 (fits_part c no_end b (m.denominator ^ k) (one_le_pow k m.denominator l.some_unit)
+    λ f. true_not_false (fits c no_end b) ((fits_test c no_end b).1 (fits_part c no_end b (m.denominator ^ k) (one-le-pow k m.denominator l.some_unit)
         (fits_harder c (q r.0 * whole) (no_end * m.denominator ^ k) (b * m.denominator ^ k) r.2 f))) e,
   )
 

@@ -1,6 +1,6 @@
 -- The rules keep the laws.
 use Rattle.std.proofs.Common.{◌≡◌, ℕ, zero, suc, ◌+◌, ◌-◌, ◌*◌, ◌/◌, ◌<◌, ◌≤◌, Bool, true, false, not, ◌||◌, leb, ◌⊎◌, List, [], ◌∷◌, ◌++◌, sym, refl, ap, ◌∙◌, subst, inl, inr, ⊎_elim, le_trans, le_of_eq, le_refl, eq-zero-or-pos, le_antisymm, mul-le-mul_left, le-div_iff_mul-le, div-mul-le_self, arith, le-leb, leb-false, leb-true}
-use native.Mathlib.Nat.{div_zero}
+use native.Mathlib.Nat.{div-zero}
 use native.Mathlib.Decide.{dec_le}
 use Rattle.theory.specs.Rules.{RuleLaws, total_weight}
 use Rattle.theory.specs.Mixes.{RulesLawful, sum_of, mix_down, mix_up, mix_marks, greater, lesser, yes_first, no_first}
@@ -12,7 +12,7 @@ sum_better (p ∷ ps) after w x y h = let k = sum_better ps after w x y h in ome
 
 -- nor the quotient
 pub div_mono : (d a b : ℕ) → a ≤ b → a / d ≤ b / d
-div_mono zero a b h = rw (div_zero a, div_zero b) (le_refl 0)
+div_mono zero a b h = rw (div-zero a, div-zero b) (le_refl 0)
 div_mono (suc d) a b h = (le-div_iff_mul-le {k = suc d} (omega arith)).1 (le_trans (div-mul-le_self a (suc d)) h)
 
 -- of two numbers one is at most the other

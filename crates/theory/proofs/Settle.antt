@@ -1,6 +1,6 @@
 -- Marks that only grow settle within as many rounds as there are states.
 use Rattle.std.proofs.Common.{◌≡◌, ℕ, zero, suc, ◌+◌, ◌-◌, ◌<◌, ◌≤◌, Bool, true, false, cond, not, ◌||◌, ◌⊎◌, sym, refl, ap, ◌∙◌, inl, inr, le_refl, le_of_suc-le-suc, not-suc-le-zero, suc-add, eq-or-lt_of_le, zero-add, sub-add_cancel, arith}
-use mathlib.Core.Bool.{or_false}
+use mathlib.Core.Bool.{or-false}
 use Rattle.model.specs.Mdp.{Mdp, Lawful}
 use Rattle.theory.specs.Rules.{RuleLaws}
 use Rattle.theory.specs.Rounds.{rounds}
@@ -83,13 +83,13 @@ module _ (left right : ℕ → Bool) (m : Mdp) (l : Lawful m) where
   pub all_settles : (j : ℕ) × (j ≤ m.states) × Settled m (all_marks left right m right) j
   all_settles = settle m (all_marks left right m right) (λ k s p. no_first_grows _ _
       (falling no_first mix_marks marks_lesser (held left right m) (held_lawful left right m l) right
-      (λ t q. from_no_first _ _ (λ r. rounds_stay no_first mix_marks (stops left right) m or_false right 1 t q (rw r) ∙ r)) k s p))
+      (λ t q. from_no_first _ _ (λ r. rounds_stay no_first mix_marks (stops left right) m or-false right 1 t q (rw r) ∙ r)) k s p))
 
   -- those with yes preferred
   pub some_settles : (j : ℕ) × (j ≤ m.states) × Settled m (some_marks left right m right) j
   some_settles = settle m (some_marks left right m right) (λ k s p. yes_first_yes _ _
       (rising yes_first mix_marks marks_greater (held left right m) (held_lawful left right m l) right
-      (λ t q. from_yes_first _ _ (λ r. rounds_stay yes_first mix_marks (stops left right) m or_false right 1 t q (rw r) ∙ r)) k s p))
+      (λ t q. from_yes_first _ _ (λ r. rounds_stay yes_first mix_marks (stops left right) m or-false right 1 t q (rw r) ∙ r)) k s p))
 
   -- those that begin with what is unmarked
   pub unmarked_settles : (k : ℕ) → Settled m (all_marks left right m right) k → (j : ℕ) × (j ≤ m.states) × Settled m (some_marks left right m (unmarked left right m k)) j

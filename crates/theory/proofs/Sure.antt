@@ -1,8 +1,8 @@
 -- Untils without steps: where every adversary is sure.
 use Rattle.std.proofs.Common.{◌≡◌, ℕ, zero, suc, ◌+◌, ◌-◌, ◌*◌, ◌^◌, ◌<◌, ◌≤◌, Bool, true, false, cond, not, ◌&&◌, ◌||◌, ◌⊎◌, ◌↔◌, List, [], ◌∷◌, map, length, sym, refl, ap, ◌∙◌, subst, inl, inr, suc-le-suc, zero-le, le_trans, le_of_eq, le_refl, add-zero, mul-le-mul_right, suc-mul, mul-le-mul, add_comm, suc-add, mul-le-mul_left, zero-add, zero-mul, le-mul_of_pos_right, arith}
 use mathlib.Core.Path.{fun_ext}
-use mathlib.Core.Bool.{or_false, and_false}
-use native.Mathlib.Nat.{pow_succ', pow_zero, one_le_pow}
+use mathlib.Core.Bool.{or-false, and-false}
+use native.Mathlib.Nat.{pow-succ', pow-zero, one-le-pow}
 use Rattle.model.specs.Mdp.{Mdp, Row, Lawful, LawfulRow, Ascends, total, row, hold}
 use Rattle.theory.specs.Adversaries.{Adversary, Allowed, chosen}
 use Rattle.theory.specs.Tallies.{Run, runs, meets, weigh, tally_after, tally, Sure}
@@ -66,7 +66,7 @@ module _ (left right : ℕ → Bool) (m : Mdp) (l : Lawful m) (σ : Adversary) (
   -- elsewhere, without a step, the one run misses
   pub miss_none : (h : List ℕ) (s : ℕ) → right s ≡ false → miss left right 0 m σ h s ≡ 1
   unfolding miss
-  miss_none h s r = rw (r, and_false (left s))
+  miss_none h s r = rw (r, and-false (left s))
 
   -- in left only: the sum over the row taken
   pub miss_on : (k : ℕ) (h : List ℕ) (s : ℕ) → right s ≡ false → left s ≡ true →
@@ -104,7 +104,7 @@ module _ (left right : ℕ → Bool) (m : Mdp) (l : Lawful m) (k : ℕ) (settled
       safe_on : {P : Type 0} (s : ℕ) → s < m.states → some_marks left right m (unmarked left right m k) j s ≡ false → (right s ≡ true → P) → (right s ≡ false → left s ≡ true → P) → P
       safe_on s p e f g = elim (kind left right s) [
         | reached r ↦ f r
-        | lost r x ↦ true_not_false (right s) (sym (rounds_stay no_first mix_marks (stops left right) m or_false right k s p (rw (r, x))) ∙ safe_marked s p e) r
+        | lost r x ↦ true_not_false (right s) (sym (rounds_stay no_first mix_marks (stops left right) m or-false right k s p (rw (r, x))) ∙ safe_marked s p e) r
         | under_way r x ↦ g r x
       ]
 
@@ -128,14 +128,14 @@ module _ (left right : ℕ → Bool) (m : Mdp) (l : Lawful m) (k : ℕ) (settled
       -- after k steps at most all but one path miss, and so again and again
       miss_power : (n : ℕ) (h : List ℕ) (s : ℕ) → s < m.states → some_marks left right m (unmarked left right m k) j s ≡ false →
           miss left right (n * k) m σ h s ≤ (m.denominator ^ k - 1) ^ n
-      miss_power zero h s p e = rw (zero-mul k, pow_zero (m.denominator ^ k - 1))
-          (omega (arith, miss_rest left right m l σ a 0 h s p, pow_zero m.denominator))
+      miss_power zero h s p e = rw (zero-mul k, pow-zero (m.denominator ^ k - 1))
+          (omega (arith, miss_rest left right m l σ a 0 h s p, pow-zero m.denominator))
       miss_power (suc n) h s p e =
           let x = miss_more ((m.denominator ^ k - 1) ^ n) (n * k) (λ h s p e. miss_power n h s p e) k h s p e in
           let y = miss_rest left right m l σ a k h s p in
           let z = positive_after left right m l k σ a h s p (safe_marked s p e) in
           let w : miss left right k m σ h s ≤ m.denominator ^ k - 1 = omega arith in
-          rw (suc-mul n k, add_comm (n * k) k, pow_succ' (m.denominator ^ k - 1) n) (le_trans x (mul-le-mul_right ((m.denominator ^ k - 1) ^ n) w))
+          rw (suc-mul n k, add_comm (n * k) k, pow-succ' (m.denominator ^ k - 1) n) (le_trans x (mul-le-mul_right ((m.denominator ^ k - 1) ^ n) w))
 
       pub sure : (s : ℕ) → s < m.states → some_marks left right m (unmarked left right m k) j s ≡ false → Sure left right m σ s
       sure s p e zero h = absurd (omega arith)
@@ -145,7 +145,7 @@ module _ (left right : ℕ → Bool) (m : Mdp) (l : Lawful m) (k : ℕ) (settled
           let n = enough c (suc b) in
           let x = miss_rest left right m l σ a (n.0 * k) [] s p in
           let y = mul-le-mul_left (suc b) (miss_power n.0 [] s p e) in
-          let g : c + 1 ≡ d ^ k = omega (arith, one_le_pow k d l.some_unit) in
+          let g : c + 1 ≡ d ^ k = omega (arith, one-le-pow k d l.some_unit) in
           let z : suc b * c ^ n.0 ≤ d ^ (n.0 * k) = rw (g, pow_times d k n.0) at n.1 in
           (n.0 * k, rw (← x, suc_one b) (omega arith))
 
@@ -188,11 +188,11 @@ module _ (left right : ℕ → Bool) (m : Mdp) (l : Lawful m) (k : ℕ) (settled
         let z = unmarked_none left right m l k settled avoider avoider_unheld avoider_lingers n h s p f in
         let y = miss_rest left right m l avoider avoider_unheld n h s p in
         let e : miss left right n m avoider h s ≡ m.denominator ^ n = omega arith in
-        rw e (le-mul_of_pos_right (m.denominator ^ n) (one_le_pow i m.denominator l.some_unit))
+        rw e (le-mul_of_pos_right (m.denominator ^ n) (one-le-pow i m.denominator l.some_unit))
 
     -- a marked state that is held is not under way to what is unmarked
     held_still : (i s : ℕ) → s < m.states → stops left right s ≡ true → all_marks left right m right k s ≡ true → some_marks left right m (unmarked left right m k) i s ≡ false
-    held_still i s p t f = rounds_stay yes_first mix_marks (stops left right) m or_false (unmarked left right m k) i s p t ∙ ap not f
+    held_still i s p t f = rounds_stay yes_first mix_marks (stops left right) m or-false (unmarked left right m k) i s p t ∙ ap not f
 
     -- on the way there at least one part in D ^ i misses for ever
     avoider_misses : (i : ℕ) (h : List ℕ) (s : ℕ) → i + length h ≡ j → s < m.states → some_marks left right m (unmarked left right m k) i s ≡ true →
@@ -204,8 +204,8 @@ module _ (left right : ℕ → Bool) (m : Mdp) (l : Lawful m) (k : ℕ) (settled
     avoider_misses (suc i) h s x p e zero = elim (which (all_marks left right m right k s)) [
       | inl f ↦ elim (kind left right s) [
         | reached r ↦ true_not_false (some_marks left right m (unmarked left right m k) (suc i) s) e (held_still (suc i) s p (rw r) f)
-        | lost r g ↦ rw (miss_none left right m l avoider avoider_unheld h s r) (omega (arith, pow_zero m.denominator, one_le_pow (suc i) m.denominator l.some_unit))
-        | under_way r g ↦ rw (miss_none left right m l avoider avoider_unheld h s r) (omega (arith, pow_zero m.denominator, one_le_pow (suc i) m.denominator l.some_unit))
+        | lost r g ↦ rw (miss_none left right m l avoider avoider_unheld h s r) (omega (arith, pow-zero m.denominator, one-le-pow (suc i) m.denominator l.some_unit))
+        | under_way r g ↦ rw (miss_none left right m l avoider avoider_unheld h s r) (omega (arith, pow-zero m.denominator, one-le-pow (suc i) m.denominator l.some_unit))
       ]
       | inr f ↦ unmarked_missed (suc i) h s p f zero
     ]
@@ -221,7 +221,7 @@ module _ (left right : ℕ → Bool) (m : Mdp) (l : Lawful m) (k : ℕ) (settled
             (rw (unheld_row (stops left right) m avoider h s (rw (r, g))) at (avoider_makes i h s x p f ∙ e))
             (λ t y z. avoider_misses i (s ∷ h) t (omega arith) y z n) in
             let w = mul-le-mul_left d q in
-            rw (miss_on left right m l avoider avoider_unheld n h s r g, pow_succ' d n, pow_succ' d i)
+            rw (miss_on left right m l avoider avoider_unheld n h s r g, pow-succ' d n, pow-succ' d i)
             (omega (arith, ap (λ y. d * y) (spread_mul (d ^ i) (miss left right n m avoider (s ∷ h)) (chosen m avoider h s))))
       ]
       | inr f ↦ unmarked_missed (suc i) h s p f (suc n)
@@ -232,7 +232,7 @@ module _ (left right : ℕ → Bool) (m : Mdp) (l : Lawful m) (k : ℕ) (settled
     unsure s p e f =
         let d = m.denominator in
         let g = f (suc (d ^ j)) (suc-le-suc zero-le) in
-        too_many (d ^ j) (d ^ g.0) (tally left right g.0 m avoider s) (miss left right g.0 m avoider [] s) (one_le_pow g.0 d l.some_unit)
+        too_many (d ^ j) (d ^ g.0) (tally left right g.0 m avoider s) (miss left right g.0 m avoider [] s) (one-le-pow g.0 d l.some_unit)
         (miss_rest left right m l avoider avoider_unheld g.0 [] s p) (avoider_misses j [] s (add-zero j) p e g.0) g.1
 
     -- where no unmarked state can be reached, and only there, every adversary is sure

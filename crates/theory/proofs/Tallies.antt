@@ -1,8 +1,8 @@
 -- The recursion of the tally, from the paths.
 use Rattle.std.proofs.Common.{◌≡◌, ℕ, zero, suc, ◌+◌, ◌*◌, ◌^◌, ◌<◌, ◌≤◌, Bool, true, false, cond, not, ◌&&◌, ◌||◌, List, [], ◌∷◌, ◌++◌, map, length, sym, refl, ap, ◌∙◌, subst, ap₂, add-zero, add_assoc, mul_assoc, mul_comm, add-mul, mul-le-mul_left, pow-suc, mul-zero, zero-add, mul-add, arith}
 use mathlib.Core.Path.{fun_ext}
-use mathlib.Core.Bool.{and_false}
-use native.Mathlib.Nat.{pow_zero, pow_succ'}
+use mathlib.Core.Bool.{and-false}
+use native.Mathlib.Nat.{pow-zero, pow-succ'}
 use Rattle.model.specs.Mdp.{Mdp, Row, Lawful, LawfulRow, total, row}
 use Rattle.theory.specs.Adversaries.{Adversary, Allowed, chosen}
 use Rattle.theory.specs.Tallies.{Run, step, gather, runs, meets, weigh, tally_after, tally}
@@ -52,11 +52,11 @@ spread_const c (b ∷ bs) = rw (spread_const c bs) (omega arith)
 -- every path counted: D ^ k
 pub weigh_all : (m : Mdp) → Lawful m → (σ : Adversary) → Allowed m σ → (k : ℕ) (h : List ℕ) (s : ℕ) → s < m.states →
     weigh (λ ss. true) (runs k m σ h s) ≡ m.denominator ^ k
-weigh_all m l σ a zero h s p = sym (pow_zero m.denominator)
+weigh_all m l σ a zero h s p = sym (pow-zero m.denominator)
 weigh_all m l σ a (suc k) h s p = weigh_suc (λ ss. true) k m σ h s
     ∙ spread_same m.states _ (λ t. m.denominator ^ k) (chosen m σ h s) (row_within m l s (σ (s ∷ h)) (a h s p)) (λ t q. weigh_all m l σ a k (s ∷ h) t q)
     ∙ spread_const (m.denominator ^ k) (chosen m σ h s)
-    ∙ rw ((row_lawful m l s (σ (s ∷ h)) (a h s p)).sums, pow_succ' m.denominator k)
+    ∙ rw ((row_lawful m l s (σ (s ∷ h)) (a h s p)).sums, pow-succ' m.denominator k)
 
 -- nothing weighs nothing
 pub weigh_none : (rs : List Run) → weigh (λ ss. false) rs ≡ 0
@@ -82,7 +82,7 @@ module _ (left right : ℕ → Bool) (m : Mdp) (l : Lawful m) (σ : Adversary) (
 
   -- in left only, no steps: none counts
   pub tally_none : (h : List ℕ) (s : ℕ) → right s ≡ false → tally_after left right 0 m σ h s ≡ 0
-  tally_none h s r = rw (r, and_false (left s))
+  tally_none h s r = rw (r, and-false (left s))
 
   -- in left only: the sum over the row of weight × tally of the rest
   pub tally_on : (k : ℕ) (h : List ℕ) (s : ℕ) → right s ≡ false → left s ≡ true →

@@ -1,7 +1,7 @@
 -- Untils without steps: what the settled marks say of the tallies.
 use Rattle.std.proofs.Common.{◌≡◌, ℕ, zero, suc, ◌+◌, ◌-◌, ◌*◌, ◌^◌, ◌<◌, ◌≤◌, Bool, true, false, cond, not, ◌&&◌, ◌||◌, ◌⊎◌, ◌↔◌, List, [], ◌∷◌, map, length, sym, refl, ap, ◌∙◌, subst, inl, inr, le_trans, le_of_eq, le_refl, not-suc-le-zero, mul-le-mul_right, suc-mul, mul-le-mul, suc-add, mul-le-mul_left, zero-add, arith}
-use mathlib.Core.Bool.{or_false}
-use native.Mathlib.Nat.{pow_succ', pow_zero, one_le_pow}
+use mathlib.Core.Bool.{or-false}
+use native.Mathlib.Nat.{pow-succ', pow-zero, one-le-pow}
 use Rattle.model.specs.Mdp.{Mdp, Row, Lawful, LawfulRow, Ascends, total, row, hold}
 use Rattle.theory.specs.Adversaries.{Adversary, Allowed, chosen}
 use Rattle.theory.specs.Tallies.{runs, meets, weigh, tally_after, tally, Sure}
@@ -53,13 +53,13 @@ module _ (left right : ℕ → Bool) (m : Mdp) (l : Lawful m) (σ τ : Adversary
     (agree : (h : List ℕ) (s : ℕ) → stops left right s ≡ false → chosen (held left right m) τ h s ≡ chosen m σ h s) where
   -- a held state keeps its mark
   keep : (k : ℕ) (h : List ℕ) (s : ℕ) → s < m.states → stops left right s ≡ true → value mix_marks k (held left right m) right τ h s ≡ right s
-  keep = stay (stops left right) m mix_marks or_false right τ b
+  keep = stay (stops left right) m mix_marks or-false right τ b
 
   -- an adversary whose mark is yes has a tally above 0
   pub value_yes : (k : ℕ) (h : List ℕ) (s : ℕ) → s < m.states → value mix_marks k (held left right m) right τ h s ≡ true → 0 < tally_after left right k m σ h s
-  value_yes zero h s p e = rw (tally_right left right m l σ a 0 h s p e) (one_le_pow 0 m.denominator l.some_unit)
+  value_yes zero h s p e = rw (tally_right left right m l σ a 0 h s p e) (one-le-pow 0 m.denominator l.some_unit)
   value_yes (suc k) h s p e = elim (kind left right s) [
-    | reached r ↦ rw (tally_right left right m l σ a (suc k) h s p r) (one_le_pow (suc k) m.denominator l.some_unit)
+    | reached r ↦ rw (tally_right left right m l σ a (suc k) h s p r) (one-le-pow (suc k) m.denominator l.some_unit)
     | lost r f ↦ true_not_false (right s) (sym (keep (suc k) h s p (rw (r, f))) ∙ e) r
     | under_way r f ↦ rw (tally_on left right m l σ a k h s r f)
         (spread_some m.states 0 m.denominator 1 (value mix_marks k (held left right m) right τ (s ∷ h)) (tally_after left right k m σ (s ∷ h)) (chosen m σ h s)
@@ -83,14 +83,14 @@ module _ (left right : ℕ → Bool) (m : Mdp) (l : Lawful m) where
   -- what is not marked is not in right
   pub unmarked_not_right : (k s : ℕ) → s < m.states → all_marks left right m right k s ≡ false → right s ≡ false
   unmarked_not_right k s p e = elim (which (right s)) [
-    | inl r ↦ true_not_false (right s) r (sym (rounds_stay no_first mix_marks (stops left right) m or_false right k s p (rw r)) ∙ e)
+    | inl r ↦ true_not_false (right s) r (sym (rounds_stay no_first mix_marks (stops left right) m or-false right k s p (rw r)) ∙ e)
     | inr r ↦ r
   ]
 
   -- with the greater preferred, what is not marked never has a tally
   unmarked_not_right' : (k s : ℕ) → s < m.states → some_marks left right m right k s ≡ false → right s ≡ false
   unmarked_not_right' k s p e = elim (which (right s)) [
-    | inl r ↦ true_not_false (right s) r (sym (rounds_stay yes_first mix_marks (stops left right) m or_false right k s p (rw r)) ∙ e)
+    | inl r ↦ true_not_false (right s) r (sym (rounds_stay yes_first mix_marks (stops left right) m or-false right k s p (rw r)) ∙ e)
     | inr r ↦ r
   ]
 

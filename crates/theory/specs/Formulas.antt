@@ -8,7 +8,7 @@ use Rattle.theory.specs.WithoutSteps.{Extremal, over_none, at_most_none, at_leas
 
 -- the four comparisons with a bound: `<`, `<=`, `>`, `>=`
 pub data Comparison : Type 0 where
-  below at_most above at_least_lem : Comparison
+  below at_most above at_least : Comparison
 
 -- state formulas hold path formulas, which hold state formulas again; a label is told by its letter's number, a bound in units
 mutual
@@ -29,7 +29,7 @@ abbrev pub extremal : Comparison → ℕ → Option Extremal
 extremal below b = None
 extremal at_most b = cond (b == 0) (Some at_most_none) None
 extremal above b = cond (b == 0) (Some over_none) None
-extremal at_least_lem b = cond (b == whole) (Some at_least_whole) None
+extremal at_least b = cond (b == whole) (Some at_least_whole) None
 
 -- an until may have at most so many steps
 abbrev pub most_steps : ℕ
@@ -54,7 +54,7 @@ abbrev pub Fits : Comparison → ℕ → ℕ → Type 0
 Fits below x y = x < y
 Fits at_most x y = x ≤ y
 Fits above x y = y < x
-Fits at_least_lem x y = y ≤ x
+Fits at_least x y = y ≤ x
 
 -- a Boolean set is the set of the states of which P holds
 abbrev pub SetOf : Mdp → (ℕ → Type 0) → (ℕ → Bool) → Type 0

@@ -10,18 +10,18 @@ use Rattle.text.proofs.labels.labels.Goals.{then-byte-ne45, else-byte-ne45}
 pub returns-then-length-eq0 : goal.returns-then-length-eq0
 returns-then-length-eq0 c =
     let field = c.args.field.now in
-    let e = c.labels-length-length.ensures in
+    let e = c.labels_length-length.ensures in
     let short : (longest lawful_labels field ≡ 0) ⊎ (longest lawful_labels field < length field) = ⊎_elim (λ h. inl (sym e ∙ h)) (λ h. inr (omega (arith, e, h.1))) c.then-length-eq0.either in
     (whole_fails lawful_labels field refl short, ap (Labels c.args.index) e)
 
 pub loop-byte-init : goal.loop-byte-init
 loop-byte-init c =
     let field = c.args.field.now in
-    let e = c.labels-length-length.ensures in
+    let e = c.labels_length-length.ensures in
     (whole_passes lawful_labels field (omega (arith, e)) (omega (arith, e)), refl)
 
-pub overflow-sub-letters : goal.overflow-sub-letters
-overflow-sub-letters c = (labels_at _ _ c.loop-byte.invariant.0 c.loop-byte-test.true c.if-byte-ne45.true).0
+pub overflow_sub-letters : goal.overflow_sub-letters
+overflow_sub-letters c = (labels_at _ _ c.loop-byte.invariant.0 c.loop-byte-test.true c.if-byte-ne45.true).0
 
 pub bounds-letters-byte : goal.bounds-letters-byte
 bounds-letters-byte c = omega (arith, (labels_at _ _ c.loop-byte.invariant.0 c.loop-byte-test.true c.if-byte-ne45.true).1)

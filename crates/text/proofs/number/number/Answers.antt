@@ -10,24 +10,24 @@ use Rattle.text.proofs.number.number.Goals as goal
 pub returns-then-length-eq0 : goal.returns-then-length-eq0
 returns-then-length-eq0 c =
     let field = c.args.field.now in
-    let e = c.number-length-length.ensures in
+    let e = c.number_length-length.ensures in
     let short : (longest lawful_number field ≡ 0) ⊎ (longest lawful_number field < length field) = ⊎_elim (λ h. inl (sym e ∙ h)) (λ h. inr (omega (arith, e, h.1))) c.then-length-eq0.either in
     ap (λ z. Err (Number c.args.index z)) e ∙ sym (cond-false (lawful_number field) _ _ (whole_fails lawful_number field refl short))
 
 pub loop-byte-init : goal.loop-byte-init
 loop-byte-init c =
     let field = c.args.field.now in
-    let e = c.number-length-length.ensures in
+    let e = c.number_length-length.ensures in
     (number_from field (whole_passes lawful_number field (omega (arith, e)) (omega (arith, e))), refl)
 
-pub overflow-mul-value : goal.overflow-mul-value
-overflow-mul-value c = let n = next_digit _ _ c.loop-byte.invariant.0 c.loop-byte-test.true in omega (arith, c.loop-byte.invariant.1)
+pub overflow_mul-value : goal.overflow_mul-value
+overflow_mul-value c = let n = next_digit _ _ c.loop-byte.invariant.0 c.loop-byte-test.true in omega (arith, c.loop-byte.invariant.1)
 
-pub overflow-sub-value : goal.overflow-sub-value
-overflow-sub-value c = (next_digit _ _ c.loop-byte.invariant.0 c.loop-byte-test.true).digit
+pub overflow_sub-value : goal.overflow_sub-value
+overflow_sub-value c = (next_digit _ _ c.loop-byte.invariant.0 c.loop-byte-test.true).digit
 
-pub overflow-add-value : goal.overflow-add-value
-overflow-add-value c = let n = next_digit _ _ c.loop-byte.invariant.0 c.loop-byte-test.true in omega (arith, c.loop-byte.invariant.1)
+pub overflow_add-value : goal.overflow_add-value
+overflow_add-value c = let n = next_digit _ _ c.loop-byte.invariant.0 c.loop-byte-test.true in omega (arith, c.loop-byte.invariant.1)
 
 pub loop-byte-preserved : goal.loop-byte-preserved
 loop-byte-preserved c = (c.loop-byte.invariant.0, (let n = next_digit _ _ c.loop-byte.invariant.0 c.loop-byte-test.true in omega (arith, c.loop-byte.invariant.1)))

@@ -10,12 +10,12 @@ pub loop-length-preserved : goal.loop-length-preserved
 loop-length-preserved c = record {
   within = omega arith;
   few = omega arith;
-  digits = digits_more 10 c.args.field.now c.loop-length.length (omega arith) c.loop-length.invariant.digits c.if-is-ascii-digit.ensures.bound;
+  digits = digits_more 10 c.args.field.now c.loop-length.length (omega arith) c.loop-length.invariant.digits c.if-is_ascii_digit.ensures.bound;
   lead = c.loop-length.invariant.lead;
 }
 
-pub returns-else-is-ascii-digit : goal.returns-else-is-ascii-digit
-returns-else-is-ascii-digit c = sym (length_begun _ _ c.loop-length.invariant (λ _. inr (λ h. omega (arith, h, c.if-is-ascii-digit.ensures.cases))))
+pub returns-else-is_ascii_digit : goal.returns-else-is_ascii_digit
+returns-else-is_ascii_digit c = sym (length_begun _ _ c.loop-length.invariant (λ _. inr (λ h. omega (arith, h, c.if-is_ascii_digit.ensures.cases))))
 
 pub returns-else-length-lt7 : goal.returns-else-length-lt7
 returns-else-length-lt7 c = sym (length_begun _ _ c.loop-length.invariant (λ _. inl c.if-length-lt7.false))

@@ -1,4 +1,4 @@
-use Rattle.std.proofs.Common.{arith, rules}
+use Rattle.std.proofs.Common.{rules}
 use Rattle.model.specs.Mdp.{row, no_branch}
 use Rattle.model.proofs.Copies.{copy_more, copy_all}
 use Rattle.model.proofs.source.Source.read_row.Goals as goal
