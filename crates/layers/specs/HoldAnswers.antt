@@ -1,5 +1,5 @@
 -- What holding a state answers and leaves.
-use Rattle.std.specs.Prelude.{◌≡◌, ℕ, ◌<◌, ◌≤◌, Bool, true, List, set, Ok, Err, Result, slice_set}
+use Rattle.std.specs.Prelude.{◌≡◌, ℕ, ◌<◌, ◌≤◌, Bool, true, List, Ok, Err, Result, slice_set}
 use Rattle.model.specs.Mdp.{Mdp}
 use Rattle.layers.specs.declared.fault.HoldFault.{HoldFault}
 use Rattle.layers.specs.declared.fault.HoldFault.TheVariants.{Held}

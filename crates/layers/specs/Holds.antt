@@ -1,5 +1,5 @@
 -- What a hold layer means.
-use Rattle.std.specs.Prelude.{ℕ, Bool, false, cond, ◌&&◌, List, [], ◌∷◌, get_or, ◌==◌, nat_lt, slice_index_or}
+use Rattle.std.specs.Prelude.{ℕ, Bool, false, cond, ◌&&◌, List, get_or, ◌==◌, nat_lt, slice_index_or}
 use Rattle.model.specs.Mdp.{Mdp, stay, hold}
 
 -- the model m with the state s held: s only stays, and the rest is as it was

@@ -1,4 +1,4 @@
-use Rattle.std.proofs.Common.{◌<◌, length, refl, arith, rules}
+use Rattle.std.proofs.Common.{◌<◌, length, refl, rules}
 use Rattle.layers.proofs.Flags.{held_more}
 use Rattle.layers.proofs.hold.Hold.hold.Goals as goal
 
