@@ -1,16 +1,15 @@
 -- What the loader knows goes on from line to line.
-use Rattle.std.proofs.Common.{◌≡◌, ℕ, ◌+◌, ◌<◌, ◌≤◌, Bool, true, false, cond, eqb, ltb, List, [], ◌∷◌, ◌++◌, length, drop, IfOk, Some, None, Ok, Err, vec_items, Option, Result, sym, refl, ap, ◌∙◌, subst, ap₂, arith, length-append}
+use Rattle.std.proofs.Common.{◌≡◌, ℕ, ◌+◌, true, false, cond, eqb, ltb, List, [], ◌∷◌, ◌++◌, length, drop, IfOk, Some, None, Ok, Err, vec_items, Option, Result, sym, refl, ap, ◌∙◌, subst, ap₂, arith, length-append}
 use Rattle.std.proofs.lemmas.List.{drop_all, drop-append-le}
 use Rattle.std.proofs.lemmas.Bool.{both_ways}
 use Rattle.model.specs.Mdp.{Row, total}
-use Rattle.model.specs.declared.branch.Branch.{Branch}
 use Rattle.text.specs.declared.word.Word.{Word}
 use Rattle.text.specs.declared.word.Word.TheVariants as word
 use Rattle.text.specs.declared.fault.LineFault.{LineFault}
 use Rattle.text.specs.declared.fault.FileFault.TheVariants.{Missing}
-use Rattle.text.specs.Cuts.{Line, field}
+use Rattle.text.specs.Cuts.{Line}
 use Rattle.text.specs.Words.{listed, one_of, followers}
-use Rattle.text.specs.Questions.{word, number, last_word, header, states_given, denominator_given, row_sum, above_last, count, word_fits, states_there}
+use Rattle.text.specs.Questions.{word, number, last_word, header, states_given, denominator_given, above_last, count, word_fits, states_there}
 use Rattle.text.specs.Refusals.{ask, or_next, numbered, line_fault, line_refusal}
 use Rattle.text_laws.proofs.SoundAsks.{some_none}
 use Rattle.text_laws.proofs.SoundRest.{count_more, row_sum_more}

@@ -1,7 +1,6 @@
 -- With each line, what the arrays have and what the lines left tell stays the same.
-use Rattle.std.proofs.Common.{◌≡◌, ℕ, ◌+◌, cond, List, [], ◌∷◌, ◌++◌, map, length, Some, vec_items, Option, sym, refl, ap, ◌∙◌, ap₂, append_assoc, length-append}
+use Rattle.std.proofs.Common.{◌≡◌, ℕ, ◌+◌, cond, List, [], ◌∷◌, ◌++◌, length, Some, vec_items, sym, refl, ap, ◌∙◌, ap₂, append_assoc, length-append}
 use Rattle.std.proofs.lemmas.List.{map-append}
-use Rattle.model.specs.declared.branch.Branch.{Branch}
 use Rattle.model.specs.declared.labels.Labels.{Labels}
 use Rattle.text.specs.declared.word.Word.{Word}
 use Rattle.text.specs.declared.word.Word.TheVariants as word
@@ -16,7 +15,6 @@ use Rattle.flat.specs.declared.progress.Record.TheVariants as record_of
 use Rattle.flat.specs.Flats.{letters}
 use Rattle.flat.specs.Readings.{Says, Recorded}
 use Rattle.flat.proofs.Told.{told_labels, told_starts, told_offsets, told_branches}
-use Rattle.flat.proofs.Following.{kind, says_word}
 
 -- the arrays f, with what the lines ls tell, are the arrays g, with what the lines ks tell
 pub record KeepsTelling (f : Flat) (ls : List Line) (g : Flat) (ks : List Line) : Type 0 where

@@ -1,7 +1,7 @@
 -- The lines of a text are read one after the other.
-use Rattle.std.proofs.Common.{◌≡◌, ℕ, ◌+◌, ◌-◌, ◌<◌, ◌≤◌, Bool, true, false, eqb, leb, List, [], ◌∷◌, ◌++◌, length, get_or, take, drop, Some, None, vec_items, Option, Result, sym, refl, ap, ◌∙◌, subst, ap₂, ⊎_elim, append-nil, arith, length-drop}
+use Rattle.std.proofs.Common.{◌≡◌, ℕ, ◌+◌, ◌-◌, ◌<◌, ◌≤◌, Bool, true, eqb, List, [], ◌∷◌, ◌++◌, length, get_or, take, drop, Some, None, vec_items, Option, sym, refl, ap, ◌∙◌, subst, ap₂, ⊎_elim, append-nil, arith, length-drop}
 use Rattle.std.proofs.lemmas.List.{get_or-drop, drop_all, take_all}
-use Rattle.std.proofs.lemmas.Bool.{cases_lt, both_ways, le-leb, eq-eqb}
+use Rattle.std.proofs.lemmas.Bool.{cases_lt, le-leb, eq-eqb}
 use Rattle.model.specs.Mdp.{total}
 use Rattle.text.specs.declared.word.Word.TheVariants as word
 use Rattle.text.specs.declared.fault.FileFault.{FileFault}
@@ -22,10 +22,10 @@ use Rattle.flat.specs.declared.progress.Progress.{Progress}
 use Rattle.flat.specs.Drafts.{Emptied, Closed}
 use Rattle.flat.specs.Flats.{letters, content}
 use Rattle.flat.specs.Reads.{Holds}
-use Rattle.flat.specs.Readings.{Sane, Follows, Stepped, further}
+use Rattle.flat.specs.Readings.{Sane, Follows, Stepped}
 use Rattle.flat.proofs.Told.{told_labels, told_starts, told_offsets, told_branches}
 use Rattle.flat.proofs.Following.{follows_more}
-use Rattle.flat.proofs.Growing.{KeepsTelling, tells_on}
+use Rattle.flat.proofs.Growing.{tells_on}
 use Rattle.flat.proofs.ToldFlat.{loaded}
 
 -- a text that is short and ended is refused with the fault of its lines

@@ -6,9 +6,8 @@ use Rattle.model.specs.declared.labels.Labels.{Labels}
 use Rattle.model.specs.Mdp.{Row, Each}
 use Rattle.text.specs.Cuts.{Line}
 use Rattle.text.specs.Contents.{State, Content, all_choices, all_branches}
-use Rattle.text.specs.Texts.{branch_line, row_lines, choices_lines, states_lines, content_lines, end_line, Within}
-use Rattle.text_laws.proofs.Nest.{branch_of}
-use Rattle.text_laws.proofs.CompleteFields.{amount_decimal, labels_read}
+use Rattle.text.specs.Texts.{row_lines, choices_lines, states_lines, content_lines, end_line, Within}
+use Rattle.text_laws.proofs.CompleteFields.{labels_read}
 use Rattle.text_laws.proofs.CompleteTold.{branch_told}
 use Rattle.text_laws.proofs.States.{LawfulState, lawful_states, Small, small_rows, each_map}
 use Rattle.flat.specs.Flats.{letters, flat_states, StartsOk, OffsetsOk}

@@ -3,7 +3,7 @@ use Rattle.std.proofs.Common.{◌≡◌, zero, suc, ◌+◌, true, [], ◌∷◌
 use Rattle.std.proofs.lemmas.Fmt.{decimal_digit}
 use Rattle.std.proofs.lemmas.List.{length-map}
 use Rattle.flat.specs.declared.flat.Flat.{Flat}
-use Rattle.flat.specs.Flats.{letters, content, StartsOk, OffsetsOk}
+use Rattle.flat.specs.Flats.{content, StartsOk, OffsetsOk}
 use Rattle.flat.specs.Fresh.{FreshFlat, fresh_content}
 use Rattle.tables.specs.Keeps.{keeps}
 

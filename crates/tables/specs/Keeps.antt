@@ -1,5 +1,5 @@
 -- A test that decides whether a content is within the limits, so that the tables can keep its answer.
-use Rattle.std.specs.Prelude.{ℕ, ◌+◌, Bool, true, false, ◌&&◌, List, [], ◌∷◌, length, ◌==◌, nat_le, nat_lt}
+use Rattle.std.specs.Prelude.{ℕ, ◌+◌, Bool, true, ◌&&◌, List, [], ◌∷◌, length, ◌==◌, nat_le, nat_lt}
 use Rattle.model.specs.Mdp.{Row, total}
 use Rattle.text.specs.Fields.{between}
 use Rattle.text.specs.Contents.{State, Content, all_choices, all_branches}

@@ -1,8 +1,8 @@
 -- A content that passes the test of the limits is within them.
 use Rattle.std.specs.Prelude.{◌≡◌, ℕ, ◌+◌, true, ◌&&◌, List, [], ◌∷◌, length, ◌==◌, nat_le, nat_lt}
 use Rattle.std.proofs.lemmas.Bool.{and_parts, leb-true, ltb-true, eqb-true}
-use Rattle.model.specs.Mdp.{Row, Ascends, LawfulRow, Each, Lawful, total}
-use Rattle.text.specs.Contents.{State, Content, model_of, all_choices, all_branches}
+use Rattle.model.specs.Mdp.{Row, Ascends, LawfulRow, Each, total}
+use Rattle.text.specs.Contents.{State, Content, all_choices, all_branches}
 use Rattle.text.specs.Fields.{between}
 use Rattle.text.specs.Texts.{text_of, Within}
 use Rattle.text_laws.proofs.SoundFields.{between_true}

@@ -6,7 +6,7 @@ use Rattle.text.specs.declared.word.Word.{Word}
 use Rattle.text.specs.declared.word.Word.TheVariants as word
 use Rattle.text.specs.Cuts.{Line, field}
 use Rattle.text.specs.Words.{followers, rank, listed, one_of}
-use Rattle.text.specs.Contents.{State, all_choices, all_branches}
+use Rattle.text.specs.Contents.{all_choices, all_branches}
 use Rattle.text.specs.Texts.{end_line, row_lines, choices_lines, states_lines}
 use Rattle.text.specs.Questions.{word, number, states_given, denominator_given, count, row_sum, closed}
 use Rattle.text.specs.Refusals.{lines_refusal}

@@ -3,8 +3,8 @@ use Rattle.std.proofs.lemmas.List.{drop_more, drop_all}
 use Rattle.tables.proofs.Writes.{left_room, left_more, left_none}
 use Rattle.tables.proofs.put.put_bytes.Goals as goal
 
-pub put-byte-to-requires : goal.put-byte-to-requires
-put-byte-to-requires c =
+pub put_byte-to-requires : goal.put_byte-to-requires
+put_byte-to-requires c =
     let bytes = c.args.bytes.now in
     let i = c.loop-i.i in
     omega (arith, left_room (get_or bytes i 0 ∷ []) (drop (i + 1) bytes) (drop i bytes) (drop_more bytes i 0 (search rules)) c.loop-i.invariant 65536 c.requires)
@@ -13,7 +13,7 @@ pub loop-i-preserved : goal.loop-i-preserved
 loop-i-preserved c =
     let bytes = c.args.bytes.now in
     let i = c.loop-i.i in
-    left_more (get_or bytes i 0 ∷ []) (drop (i + 1) bytes) (drop i bytes) (drop_more bytes i 0 (search rules)) c.loop-i.invariant c.put-byte-to.ensures
+    left_more (get_or bytes i 0 ∷ []) (drop (i + 1) bytes) (drop i bytes) (drop_more bytes i 0 (search rules)) c.loop-i.invariant c.put_byte-to.ensures
 
 pub returns : goal.returns
 returns c = left_none (drop c.loop-i.i c.args.bytes.now) c.loop-i.invariant (drop_all c.loop-i.i c.args.bytes.now (search rules))

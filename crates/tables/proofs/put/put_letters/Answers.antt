@@ -11,8 +11,8 @@ next flags i h =
     let e : 97 + i + 1 ≡ 97 + (i + 1) = omega arith in
     at_drop_more (letters_from (97 + i)) flags i false h ∙ letters_more (97 + i) (get_or flags i false) (drop (i + 1) flags) ∙ ap (λ n. cond (get_or flags i false) ((97 + i) ∷ []) [] ++ letters_from n (drop (i + 1) flags)) e
 
-pub put-flag-to-requires : goal.put-flag-to-requires
-put-flag-to-requires c =
+pub put_flag-to-requires : goal.put_flag-to-requires
+put_flag-to-requires c =
     let flags = c.args.labels.now.letters in
     let i = c.loop-i.i in
     left_room (cond (get_or flags i false) ((97 + i) ∷ []) []) (letters_from (97 + (i + 1)) (drop (i + 1) flags)) (letters_from (97 + i) (drop i flags)) (next flags i (search rules)) c.loop-i.invariant 65536 c.requires
@@ -21,7 +21,7 @@ pub loop-i-preserved : goal.loop-i-preserved
 loop-i-preserved c =
     let flags = c.args.labels.now.letters in
     let i = c.loop-i.i in
-    left_more (cond (get_or flags i false) ((97 + i) ∷ []) []) (letters_from (97 + (i + 1)) (drop (i + 1) flags)) (letters_from (97 + i) (drop i flags)) (next flags i (search rules)) c.loop-i.invariant c.put-flag-to.ensures
+    left_more (cond (get_or flags i false) ((97 + i) ∷ []) []) (letters_from (97 + (i + 1)) (drop (i + 1) flags)) (letters_from (97 + i) (drop i flags)) (next flags i (search rules)) c.loop-i.invariant c.put_flag-to.ensures
 
 pub returns : goal.returns
 returns c =

@@ -4,17 +4,17 @@ use Rattle.tables.proofs.Writes.{left_all, left_more, left_last}
 use Rattle.tables.proofs.WritesTexts.{line_fields, line_length}
 use Rattle.tables.proofs.put.put_pair.Goals as goal
 
-pub put-bytes-to-requires : goal.put-bytes-to-requires
-put-bytes-to-requires c = omega (arith, c.requires, line_length c.args.word.now (decimal c.args.first) (decimal c.args.second))
+pub put_bytes-to-requires : goal.put_bytes-to-requires
+put_bytes-to-requires c = omega (arith, c.requires, line_length c.args.word.now (decimal c.args.first) (decimal c.args.second))
 
-pub put-field-to-requires : goal.put-field-to-requires
-put-field-to-requires c = omega (arith, c.requires, line_length c.args.word.now (decimal c.args.first) (decimal c.args.second))
+pub put_field-to-requires : goal.put_field-to-requires
+put_field-to-requires c = omega (arith, c.requires, line_length c.args.word.now (decimal c.args.first) (decimal c.args.second))
 
-pub put-field-to-requires-2 : goal.put-field-to-requires-2
-put-field-to-requires-2 c = omega (arith, c.requires, line_length c.args.word.now (decimal c.args.first) (decimal c.args.second))
+pub put_field-to-requires-2 : goal.put_field-to-requires-2
+put_field-to-requires-2 c = omega (arith, c.requires, line_length c.args.word.now (decimal c.args.first) (decimal c.args.second))
 
-pub put-byte-requires : goal.put-byte-requires
-put-byte-requires c = omega (arith, c.requires, line_length c.args.word.now (decimal c.args.first) (decimal c.args.second))
+pub put_byte-requires : goal.put_byte-requires
+put_byte-requires c = omega (arith, c.requires, line_length c.args.word.now (decimal c.args.first) (decimal c.args.second))
 
 pub returns : goal.returns
 returns c =
@@ -22,6 +22,6 @@ returns c =
     let a = 9 ∷ decimal c.args.first in
     let b = 9 ∷ decimal c.args.second in
     let all = line_text (w ∷ decimal c.args.first ∷ decimal c.args.second ∷ []) in
-    let first = left_more w (a ++ (b ++ (10 ∷ []))) all (line_fields w (decimal c.args.first) (decimal c.args.second)) (left_all all c.args.out.now c.args.at) c.put-bytes-to.ensures in
-    let second = left_more a (b ++ (10 ∷ [])) (a ++ (b ++ (10 ∷ []))) refl first c.put-field-to.ensures in
-    left_last (10 ∷ []) (left_more b (10 ∷ []) (b ++ (10 ∷ [])) refl second c.put-field-to-2.ensures) c.put-byte.ensures
+    let first = left_more w (a ++ (b ++ (10 ∷ []))) all (line_fields w (decimal c.args.first) (decimal c.args.second)) (left_all all c.args.out.now c.args.at) c.put_bytes-to.ensures in
+    let second = left_more a (b ++ (10 ∷ [])) (a ++ (b ++ (10 ∷ []))) refl first c.put_field-to.ensures in
+    left_last (10 ∷ []) (left_more b (10 ∷ []) (b ++ (10 ∷ [])) refl second c.put_field-to-2.ensures) c.put_byte.ensures

@@ -12,8 +12,8 @@ use Rattle.tables.proofs.put.put_row.Goals as goal
 next : (row : Row) (i : ℕ) → i < length row → spelled (row_lines (drop i row)) ≡ line_text (branch_line (get_or row i no_branch)) ++ spelled (row_lines (drop (i + 1) row))
 next row i h = at_drop_more (λ r. spelled (row_lines r)) row i no_branch h ∙ spelled_more (branch_line (get_or row i no_branch)) (row_lines (drop (i + 1) row))
 
-pub put-pair-to-requires : goal.put-pair-to-requires
-put-pair-to-requires c =
+pub put_pair-to-requires : goal.put_pair-to-requires
+put_pair-to-requires c =
     let row = c.args.row.now in
     let i = c.loop-i.i in
     left_room (line_text (branch_line (get_or row i no_branch))) (spelled (row_lines (drop (i + 1) row))) (spelled (row_lines (drop i row))) (next row i (search rules)) c.loop-i.invariant 65536 c.requires
@@ -22,7 +22,7 @@ pub loop-i-preserved : goal.loop-i-preserved
 loop-i-preserved c =
     let row = c.args.row.now in
     let i = c.loop-i.i in
-    left_more (line_text (branch_line (get_or row i no_branch))) (spelled (row_lines (drop (i + 1) row))) (spelled (row_lines (drop i row))) (next row i (search rules)) c.loop-i.invariant c.put-pair-to.ensures
+    left_more (line_text (branch_line (get_or row i no_branch))) (spelled (row_lines (drop (i + 1) row))) (spelled (row_lines (drop i row))) (next row i (search rules)) c.loop-i.invariant c.put_pair-to.ensures
 
 pub returns : goal.returns
 returns c =

@@ -1,4 +1,4 @@
-use Rattle.std.proofs.Common.{◌≡◌, ℕ, ◌+◌, ◌-◌, ◌<◌, ◌≤◌, min, List, length, take, drop, vec_items, sym, ap, ◌∙◌, ⊎_elim, arith, length-drop, length-take}
+use Rattle.std.proofs.Common.{◌≡◌, ℕ, ◌+◌, ◌-◌, ◌<◌, ◌≤◌, min, List, length, take, drop, vec_items, sym, ap, ◌∙◌, ⊎_elim, arith, length-take}
 use Rattle.std.proofs.lemmas.List.{take-take, take_all}
 use Rattle.std.proofs.lemmas.Bool.{cases_lt}
 use Rattle.model.specs.declared.branch.Branch.{Branch}
@@ -20,5 +20,5 @@ span_front branches r from to room count s e =
 
 pub returns : goal.returns
 returns c =
-    ap (λ (bs : List Branch). take (c.span-from.result.0 + c.min-count.result - c.span-from.result.0) (drop c.span-from.result.0 bs)) c.as-slice.ensures.value
+    ap (λ (bs : List Branch). take (c.span-from.result.0 + c.min-count.result - c.span-from.result.0) (drop c.span-from.result.0 bs)) c.as_slice.ensures.value
     ∙ span_front (vec_items c.args.self.now.kept.branches) _ c.span-from.result.0 c.span-from.result.1 (length c.args.buffer.now) c.min-count.result c.span-from.ensures c.min-count.ensures

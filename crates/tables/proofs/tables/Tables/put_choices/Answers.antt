@@ -5,8 +5,8 @@ use Rattle.tables.proofs.Writes.{left_room, left_more}
 use Rattle.tables.proofs.WritesTexts.{choices_from, choices_next}
 use Rattle.tables.proofs.tables.Tables.put_choices.Goals as goal
 
-pub put-choice-to-requires : goal.put-choice-to-requires
-put-choice-to-requires c =
+pub put_choice-to-requires : goal.put_choice-to-requires
+put_choice-to-requires c =
     let f = row_at c.args.self.now.kept in
     let k = c.loop-choice.choice in
     let n = c.entry-past.result in
@@ -21,4 +21,4 @@ loop-choice-preserved c =
     let f = row_at c.args.self.now.kept in
     let k = c.loop-choice.choice in
     let n = c.entry-past.result in
-    left_more (choice_text (f k)) (choices_from f (k + 1) n) (choices_from f k n) (choices_next f k n (search rules)) c.loop-choice.invariant c.put-choice-to.ensures
+    left_more (choice_text (f k)) (choices_from f (k + 1) n) (choices_from f k n) (choices_next f k n (search rules)) c.loop-choice.invariant c.put_choice-to.ensures

@@ -23,19 +23,19 @@ module _ (f : Flat) (s : ℕ) (l : Labels) (h : s < length (vec_items f.labels))
   after_line : (old new : List ℕ) (at to : ℕ) → Put (line_text (state_line l.letters)) old at new to → Left (state_text (state_at f s)) old at (body f s) new to
   after_line old new at to p = left_more (line_text (state_line l.letters)) (body f s) (state_text (state_at f s)) parts (left_all (state_text (state_at f s)) old at) p
 
-pub put-state-line-to-requires : goal.put-state-line-to-requires
-put-state-line-to-requires c =
+pub put_state_line-to-requires : goal.put_state_line-to-requires
+put_state_line-to-requires c =
     let f = c.args.self.now.kept in
     let s = c.args.state in
     let l = c.index.result.now in
     left_room (line_text (state_line l.letters)) (body f s) (state_text (state_at f s)) (parts f s l c.requires.here c.index.ensures) (left_all (state_text (state_at f s)) c.args.out.now c.args.at) 65536 c.requires.room
 
-pub put-choices-requires : goal.put-choices-requires
-put-choices-requires c =
-    let left = after_line c.args.self.now.kept c.args.state c.index.result.now c.requires.here c.index.ensures c.args.out.now c.put-state-line-to.new.out c.args.at c.put-state-line-to.result c.put-state-line-to.ensures in
+pub put_choices-requires : goal.put_choices-requires
+put_choices-requires c =
+    let left = after_line c.args.self.now.kept c.args.state c.index.result.now c.requires.here c.index.ensures c.args.out.now c.put_state_line-to.new.out c.args.at c.put_state_line-to.result c.put_state_line-to.ensures in
     record { here = c.requires.here; room = omega (arith, c.requires.room, left.place) }
 
 pub returns : goal.returns
 returns c =
-    let left = after_line c.args.self.now.kept c.args.state c.index.result.now c.requires.here c.index.ensures c.args.out.now c.put-state-line-to.new.out c.args.at c.put-state-line-to.result c.put-state-line-to.ensures in
-    left_last (body c.args.self.now.kept c.args.state) left c.put-choices.ensures
+    let left = after_line c.args.self.now.kept c.args.state c.index.result.now c.requires.here c.index.ensures c.args.out.now c.put_state_line-to.new.out c.args.at c.put_state_line-to.result c.put_state_line-to.ensures in
+    left_last (body c.args.self.now.kept c.args.state) left c.put_choices.ensures

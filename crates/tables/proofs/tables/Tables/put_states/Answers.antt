@@ -17,8 +17,8 @@ loop-state-init c =
     let e : n ≡ n - 0 = omega arith in
     left_same (spelled (states_lines (content f).states)) (states_from (state_at f) 0 n) c.args.out.now c.args.at (ap (λ ss. spelled (states_lines ss)) (states_are f ∙ ap (λ m. map (state_at f) (range_with_len 0 m)) e))
 
-pub put-state-to-requires : goal.put-state-to-requires
-put-state-to-requires c =
+pub put_state-to-requires : goal.put_state-to-requires
+put_state-to-requires c =
     let f = state_at c.args.self.now.kept in
     let s = c.loop-state.state in
     let n = length (vec_items c.args.self.now.kept.labels) in
@@ -32,4 +32,4 @@ loop-state-preserved c =
     let f = state_at c.args.self.now.kept in
     let s = c.loop-state.state in
     let n = length (vec_items c.args.self.now.kept.labels) in
-    left_more (state_text (f s)) (states_from f (s + 1) n) (states_from f s n) (states_next f s n (search rules)) c.loop-state.invariant c.put-state-to.ensures
+    left_more (state_text (f s)) (states_from f (s + 1) n) (states_from f s n) (states_next f s n (search rules)) c.loop-state.invariant c.put_state-to.ensures

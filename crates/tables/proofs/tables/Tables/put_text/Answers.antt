@@ -37,30 +37,30 @@ module _ (f : Flat) (n : ℕ) (e : n ≡ length (vec_items f.labels)) where
   after_body : (old mid new : List ℕ) (k to : ℕ) → Put head old 0 mid k → Put (body f) mid k new to → Left (text_of (content f)) old 0 foot new to
   after_body old mid new k to p q = left_more (body f) foot (body f ++ foot) refl (after_head old mid k p) q
 
-pub put-pair-to-requires : goal.put-pair-to-requires
-put-pair-to-requires c =
+pub put_pair-to-requires : goal.put_pair-to-requires
+put_pair-to-requires c =
     let t = c.args.self.now in
     let n = c.len.result in
     let e : n ≡ length (vec_items t.kept.labels) = search rules in
     left_room (head t.kept n e) (body t.kept ++ foot) (text_of (content t.kept)) (parts t.kept n e) (left_all (text_of (content t.kept)) c.args.out.now 0) 65536 (short t)
 
-pub put-states-to-requires : goal.put-states-to-requires
-put-states-to-requires c =
+pub put_states-to-requires : goal.put_states-to-requires
+put_states-to-requires c =
     let t = c.args.self.now in
     let n = c.len.result in
     let e : n ≡ length (vec_items t.kept.labels) = search rules in
-    left_room (body t.kept) foot (body t.kept ++ foot) refl (after_head t.kept n e c.args.out.now c.put-pair-to.new.out c.put-pair-to.result c.put-pair-to.ensures) 65536 (short t)
+    left_room (body t.kept) foot (body t.kept ++ foot) refl (after_head t.kept n e c.args.out.now c.put_pair-to.new.out c.put_pair-to.result c.put_pair-to.ensures) 65536 (short t)
 
-pub put-bytes-requires : goal.put-bytes-requires
-put-bytes-requires c =
+pub put_bytes-requires : goal.put_bytes-requires
+put_bytes-requires c =
     let t = c.args.self.now in
     let n = c.len.result in
     let e : n ≡ length (vec_items t.kept.labels) = search rules in
-    left_room foot [] foot refl (after_body t.kept n e c.args.out.now c.put-pair-to.new.out c.put-states-to.new.out c.put-pair-to.result c.put-states-to.result c.put-pair-to.ensures c.put-states-to.ensures) 65536 (short t)
+    left_room foot [] foot refl (after_body t.kept n e c.args.out.now c.put_pair-to.new.out c.put_states-to.new.out c.put_pair-to.result c.put_states-to.result c.put_pair-to.ensures c.put_states-to.ensures) 65536 (short t)
 
 pub returns : goal.returns
 returns c =
     let f = c.args.self.now.kept in
     let n = c.len.result in
     let e : n ≡ length (vec_items f.labels) = search rules in
-    left_last foot (after_body f n e c.args.out.now c.put-pair-to.new.out c.put-states-to.new.out c.put-pair-to.result c.put-states-to.result c.put-pair-to.ensures c.put-states-to.ensures) c.put-bytes.ensures
+    left_last foot (after_body f n e c.args.out.now c.put_pair-to.new.out c.put_states-to.new.out c.put_pair-to.result c.put_states-to.result c.put_pair-to.ensures c.put_states-to.ensures) c.put_bytes.ensures
