@@ -1,9 +1,9 @@
 -- A content that is laid out as model text is its text.
-use Rattle.std.proofs.Common.{◌≡◌, ℕ, ◌+◌, List, [], ◌∷◌, ◌++◌, length, codes, decimal, sym, refl, ap, ◌∙◌, append_assoc, append-nil}
+use Rattle.std.proofs.Common.{◌≡◌, ℕ, ◌+◌, List, [], ◌∷◌, ◌++◌, length, codes, sym, refl, ap, ◌∙◌, append_assoc, append-nil}
 use Rattle.model.specs.Mdp.{Row}
 use Rattle.text.specs.Cuts.{Line, spelled, parted}
-use Rattle.text.specs.Contents.{State, Content}
-use Rattle.text.specs.Texts.{row_lines, choices_lines, states_lines, content_lines, end_line, text_of}
+use Rattle.text.specs.Contents.{State}
+use Rattle.text.specs.Texts.{row_lines, choices_lines, states_lines, end_line, text_of}
 use Rattle.std.proofs.lemmas.List.FromFn.{length-map-range_with_len}
 use Rattle.model.specs.Mdp.{Mdp}
 use Rattle.printing.specs.Layouts.{laid, laid_choice, laid_state, laid_states, state_of, model_content}

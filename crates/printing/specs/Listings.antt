@@ -1,5 +1,5 @@
 -- The two ways in which models are laid out: as model text, and as a listing to read.
-use Rattle.std.specs.Prelude.{ℕ, cond, List, [], ◌∷◌, ◌++◌, length, codes, decimal, ◌==◌}
+use Rattle.std.specs.Prelude.{ℕ, cond, List, [], ◌++◌, length, codes, decimal, ◌==◌}
 use Rattle.text.specs.Fields.{labels_text}
 use Rattle.text.specs.Contents.{Content, all_choices, all_branches}
 use Rattle.printing.specs.Layouts.{Layout, laid_states}

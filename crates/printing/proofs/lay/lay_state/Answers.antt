@@ -8,7 +8,7 @@ pub loop-choice-preserved : goal.loop-choice-preserved
 loop-choice-preserved g c =
     let m = g.S.Source.model c.args.source.now in
     let i = c.loop-choice.choice in
-    let pushed : string_bytes c.push-str.new.self ≡ string_bytes c.loop-choice.out ++ laid_choice (g.L.Style.layout c.args.style.now) i (row m c.args.state i) = search rules in
+    let pushed : string_bytes c.push_str.new.self ≡ string_bytes c.loop-choice.out ++ laid_choice (g.L.Style.layout c.args.style.now) i (row m c.args.state i) = search rules in
     left_more _ _ _ _ _ i [] (omega arith) pushed c.loop-choice.invariant
 
 pub returns : goal.returns

@@ -8,7 +8,7 @@ pub loop-state-preserved : goal.loop-state-preserved
 loop-state-preserved g c =
     let m = g.S.Source.model c.args.source.now in
     let s = c.loop-state.state in
-    let pushed : string_bytes c.push-str.new.self ≡ string_bytes c.loop-state.out ++ laid_state (g.L.Style.layout c.args.style.now) s (state_of m s) = search rules in
+    let pushed : string_bytes c.push_str.new.self ≡ string_bytes c.loop-state.out ++ laid_state (g.L.Style.layout c.args.style.now) s (state_of m s) = search rules in
     left_made _ [] (state_of m) _ _ _ s (omega arith) pushed c.loop-state.invariant
 
 pub returns : goal.returns
