@@ -1,14 +1,14 @@
 -- Larger sets never make a tally smaller; only the states count. Next.
-use Rattle.std.proofs.Common.{◌≡◌, ℕ, zero, suc, ◌+◌, ◌*◌, ◌^◌, ◌<◌, ◌≤◌, Bool, true, false, cond, ◌&&◌, ◌||◌, ◌⊎◌, List, [], ◌∷◌, sym, refl, ap, ◌∙◌, inl, inr, le_trans, le_of_eq, le_refl, add-zero, le_antisymm, arith, leb-true}
+use Rattle.std.proofs.Common.{◌≡◌, ℕ, zero, suc, ◌*◌, ◌^◌, ◌<◌, ◌≤◌, Bool, true, false, cond, ◌||◌, List, [], ◌∷◌, sym, refl, ap, ◌∙◌, inl, inr, le_trans, add-zero, arith, leb-true}
 use mathlib.Core.Path.{fun_ext}
 use native.Mathlib.Nat.{pow-succ', pow-zero}
 use Rattle.model.specs.Mdp.{Mdp, Row, Lawful, Each}
 use Rattle.theory.specs.Adversaries.{Adversary, Allowed, chosen}
-use Rattle.theory.specs.Tallies.{Run, runs, meets, weigh, tally_after, tally, second_in, next_tally}
+use Rattle.theory.specs.Tallies.{runs, meets, weigh, tally_after, second_in, next_tally}
 use Rattle.theory.specs.Rules.{valued}
 use Rattle.theory.specs.Rounds.{value, rounds}
 use Rattle.theory.specs.Mixes.{whole, sum_of, mix_down, mix_up, greater, lesser}
-use Rattle.theory.specs.Ends.{NextEndsBound, BestNextEnds, WorstNextEnds, start}
+use Rattle.theory.specs.Ends.{NextEndsBound, start}
 use Rattle.theory.proofs.Lists.{true_not_false, which}
 use Rattle.theory.proofs.Rounds.{row_within, some_adversary, no_adversary}
 use Rattle.theory.proofs.RuleLaws.{down_greater, down_lesser, up_greater, up_lesser}

@@ -1,10 +1,16 @@
 -- From a program's lists and loops to the definitions: values in a list, and the best so far.
-use Rattle.std.proofs.Common.{◌≡◌, ℕ, zero, suc, ◌+◌, ◌<◌, ◌≤◌, Bool, true, false, cond, ◌⊎◌, List, [], ◌∷◌, length, get_or, sym, refl, ap, ◌∙◌, inl, inr, ⊎_elim}
+use Rattle.std.proofs.Common.{◌≡◌, ℕ, zero, suc, ◌<◌, Bool, false, cond, List, [], ◌∷◌, get_or, refl, ◌∙◌, inl, inr, ⊎_elim}
 use Rattle.model.specs.Mdp.{Mdp, Lawful}
 use Rattle.theory.specs.Rules.{RuleLaws}
 use Rattle.theory.specs.Rounds.{most, round, rounds}
 use Rattle.theory.proofs.Lists.{true_not_false, which}
 use Rattle.theory.proofs.Rounds.{round_same}
+
+module _ {V : Type 0} (at_least_as_good : V → V → Bool) where
+  -- the loop's way: the best so far, replaced only by what is strictly better
+  abbrev pub so_far : V → List V → V
+  so_far x [] = x
+  so_far x (y ∷ ys) = so_far (cond (at_least_as_good x y) x y) ys
 
 module _ {V : Type 0} (at_least_as_good : V → V → Bool) (mix : ℕ → List (ℕ × V) → V) (laws : RuleLaws at_least_as_good mix) where
   -- k rounds read the starting values of the states only
@@ -43,17 +49,12 @@ module _ {V : Type 0} (at_least_as_good : V → V → Bool) (mix : ℕ → List 
         | inr g ↦ g
       ]
 
-  -- the loop's way: the best so far, replaced only by what is strictly better
-  abbrev pub so_far : V → List V → V
-  so_far x [] = x
-  so_far x (y ∷ ys) = so_far (cond (at_least_as_good x y) x y) ys
-
   -- the most preferred of a list with one more in front
   most_better : (x y : V) (ys : List V) → most at_least_as_good (better x y) ys ≡ better x (most at_least_as_good y ys)
   most_better x y [] = refl
   most_better x y (z ∷ zs) = better_assoc x y (most at_least_as_good z zs)
 
   -- the loop finds the most preferred
-  pub so_far_most : (x : V) (xs : List V) → so_far x xs ≡ most at_least_as_good x xs
+  pub so_far_most : (x : V) (xs : List V) → so_far at_least_as_good x xs ≡ most at_least_as_good x xs
   so_far_most x [] = refl
   so_far_most x (y ∷ ys) = so_far_most (better x y) ys ∙ most_better x y ys

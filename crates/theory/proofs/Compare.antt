@@ -1,5 +1,5 @@
 -- Comparisons: as a test, under a factor, and along what makes them harder to fit.
-use Rattle.std.proofs.Common.{◌≡◌, ℕ, zero, suc, ◌+◌, ◌*◌, ◌<◌, ◌≤◌, Bool, true, false, ◌↔◌, sym, refl, ap, ◌∙◌, le_trans, lt_of_lt_of_le, lt_of_le_of_lt, mul-le-mul_right, lt_of_mul-lt-mul_right, mul-lt-mul_of_pos_right, le_of_mul-le-mul_right, ltb-true, lt-ltb, le-leb, leb-true}
+use Rattle.std.proofs.Common.{◌≡◌, ℕ, ◌*◌, ◌≤◌, true, ◌↔◌, le_trans, lt_of_lt_of_le, lt_of_le_of_lt, mul-le-mul_right, lt_of_mul-lt-mul_right, mul-lt-mul_of_pos_right, le_of_mul-le-mul_right, ltb-true, lt-ltb, le-leb, leb-true}
 use Rattle.theory.specs.Formulas.{Comparison, below, at_most, above, at_least, Fits}
 use Rattle.theory.specs.Verdicts.{fits}
 use Rattle.theory.specs.Distances.{Harder}

@@ -1,18 +1,18 @@
 -- the ends after k rounds over the held model bound the tallies of the model itself.
-use Rattle.std.proofs.Common.{◌≡◌, ℕ, zero, suc, ◌+◌, ◌-◌, ◌*◌, ◌/◌, ◌^◌, ◌<◌, ◌≤◌, Bool, true, false, cond, not, ◌&&◌, ◌||◌, leb, ◌⊎◌, List, [], ◌∷◌, map, length, sym, refl, ap, ◌∙◌, subst, inl, inr, le_trans, le_of_eq, le_refl, mul-le-mul_right, div-lt_iff_lt-mul, div-mul-le_self, arith, leb-false, leb-true}
-use native.Mathlib.Nat.{pow-succ', pow-zero, mul-div_cancel_left, div-eq_of_lt-le}
-use Rattle.model.specs.Mdp.{Mdp, Row, Lawful, LawfulRow, Each, total, row, hold}
+use Rattle.std.proofs.Common.{◌≡◌, ℕ, zero, suc, ◌+◌, ◌-◌, ◌*◌, ◌/◌, ◌^◌, ◌<◌, ◌≤◌, Bool, true, false, cond, List, [], ◌∷◌, map, length, refl, le_trans, le_of_eq, le_refl, mul-le-mul_right, div-lt_iff_lt-mul, div-mul-le_self, arith, leb-false, leb-true}
+use native.Mathlib.Nat.{pow-succ', pow-zero, div-eq_of_lt-le}
+use Rattle.model.specs.Mdp.{Mdp, Row, Lawful, LawfulRow, Each}
 use Rattle.theory.specs.Adversaries.{Adversary, Allowed, chosen}
 use Rattle.theory.specs.Tallies.{tally_after, tally}
-use Rattle.theory.specs.Rules.{RuleLaws, valued}
-use Rattle.theory.specs.Rounds.{most, most_of, mixed, value, round, rounds}
+use Rattle.theory.specs.Rules.{valued}
+use Rattle.theory.specs.Rounds.{most, most_of, mixed, value, rounds}
 use Rattle.theory.specs.Mixes.{whole, sum_of, mix_down, mix_up, greater, lesser}
-use Rattle.theory.specs.Ends.{EndsBound, BestEnds, WorstEnds, Close, held, stops, start, lower, upper}
-use Rattle.theory.proofs.Rounds.{Within, row_lawful, row_within, ascends_within, some_adversary, no_adversary}
+use Rattle.theory.specs.Ends.{EndsBound, Close, held, stops, start, lower, upper}
+use Rattle.theory.proofs.Rounds.{row_within, ascends_within, some_adversary, no_adversary}
 use Rattle.theory.proofs.RuleLaws.{down_greater, down_lesser, up_greater, up_lesser, div_mono}
 use Rattle.theory.proofs.Tallies.{spread, spread_mul, spread_le, spread_add, tally_right, tally_out, tally_none, tally_on}
 use Rattle.model.specs.HoldLaws.{hold_lawful}
-use Rattle.theory.proofs.Holding.{unheld_allowed, lifted, lifted_allowed, lifted_row, unheld_row, stay, Kind, reached, lost, under_way, kind}
+use Rattle.theory.proofs.Holding.{unheld_allowed, lifted, lifted_allowed, lifted_row, unheld_row, stay, reached, lost, under_way, kind}
 
 -- the sum over a row of values is the sum over the row
 pub sum_spread : (f : ℕ → ℕ) (r : Row) → sum_of (valued f r) ≡ spread f r

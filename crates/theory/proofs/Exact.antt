@@ -1,18 +1,18 @@
 -- The largest and the smallest tally: the tally is the value under the rule that only adds up.
-use Rattle.std.proofs.Common.{◌≡◌, ℕ, zero, suc, ◌+◌, ◌*◌, ◌^◌, ◌<◌, ◌≤◌, Bool, true, false, cond, List, [], ◌∷◌, ◌++◌, sym, refl, ap, ◌∙◌, add-zero, mul-zero, zero-mul, arith, leb-true}
+use Rattle.std.proofs.Common.{◌≡◌, ℕ, zero, suc, ◌*◌, ◌^◌, ◌<◌, ◌≤◌, Bool, true, false, cond, List, [], ◌∷◌, sym, ap, ◌∙◌, arith, leb-true}
 use native.Mathlib.Nat.{pow-succ', pow-zero}
-use Rattle.model.specs.Mdp.{Mdp, Row, Lawful, hold}
+use Rattle.model.specs.Mdp.{Mdp, Lawful}
 use Rattle.theory.specs.Adversaries.{Adversary, Allowed, chosen}
 use Rattle.theory.specs.Tallies.{tally_after, tally}
-use Rattle.theory.specs.Rules.{RuleLaws, valued}
+use Rattle.theory.specs.Rules.{RuleLaws}
 use Rattle.theory.specs.Rounds.{mixed, value, rounds}
 use Rattle.theory.specs.Mixes.{sum_of, greater, lesser}
 use Rattle.theory.specs.Ends.{held, stops}
 use Rattle.theory.proofs.Rounds.{row_within, some_adversary, no_adversary}
 use Rattle.theory.proofs.RuleLaws.{sum_better, greater_laws, lesser_laws}
-use Rattle.theory.proofs.Tallies.{spread, spread_same, tally_right, tally_out, tally_none, tally_on}
+use Rattle.theory.proofs.Tallies.{spread_same, tally_right, tally_out, tally_none, tally_on}
 use Rattle.model.specs.HoldLaws.{hold_lawful}
-use Rattle.theory.proofs.Holding.{unheld_allowed, lifted, lifted_allowed, lifted_row, unheld_row, stop_row, Kind, reached, lost, under_way, kind}
+use Rattle.theory.proofs.Holding.{unheld_allowed, lifted, lifted_allowed, lifted_row, unheld_row, stop_row, reached, lost, under_way, kind}
 use Rattle.theory.proofs.Ends.{sum_spread}
 
 -- the rule that only adds up

@@ -1,5 +1,5 @@
 -- Figures on three small models, worked out by the definitions themselves.
-use Rattle.std.proofs.Common.{◌≡◌, ℕ, zero, suc, ◌<◌, ◌≤◌, Bool, true, false, eqb, List, [], ◌∷◌, length, replicate, sym, refl, ◌∙◌, arith}
+use Rattle.std.proofs.Common.{◌≡◌, ℕ, zero, suc, ◌<◌, ◌≤◌, Bool, true, false, eqb, List, [], ◌∷◌, length, replicate, refl, arith}
 use Rattle.model.specs.Mdp.{Mdp, Row, Lawful, LawfulRow, Each, no_labels, to}
 use Rattle.theory.specs.Tallies.{tally}
 use Rattle.theory.specs.Mixes.{whole, greater, lesser}

@@ -1,5 +1,5 @@
 -- The verdicts that rounds and marks find.
-use Rattle.std.proofs.Common.{ℕ, Bool, true, false, Some, None, Option}
+use Rattle.std.proofs.Common.{ℕ, true, false, Some, None, Option}
 use Rattle.model.specs.Mdp.{Mdp}
 use Rattle.theory.specs.WithoutSteps.{Extremal, over_none, at_most_none, at_least_whole, marked_set}
 use Rattle.theory.specs.Formulas.{Comparison, Formula, truth, label, negation, conjunction, probability, PathFormula, next, until_within, until, extremal, has_label}

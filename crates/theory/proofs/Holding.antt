@@ -1,10 +1,9 @@
 -- What the adversaries of the held model do.
-use Rattle.std.proofs.Common.{◌≡◌, ℕ, zero, suc, ◌<◌, Bool, true, false, cond, not, ltb, List, [], ◌∷◌, map, length, refl, ap, ◌∙◌, arith, lt-ltb}
+use Rattle.std.proofs.Common.{◌≡◌, ℕ, zero, suc, ◌<◌, Bool, true, false, cond, ltb, List, [], ◌∷◌, map, length, refl, ap, ◌∙◌, arith, lt-ltb}
 use mathlib.Core.Bool.{and-false}
-use Rattle.model.specs.Mdp.{Mdp, Lawful, row, hold, to}
+use Rattle.model.specs.Mdp.{Mdp, Lawful, hold, to}
 use Rattle.theory.specs.Adversaries.{Adversary, Allowed, chosen}
 use Rattle.theory.specs.Rounds.{mixed, value, most_of, rounds}
-use Rattle.theory.specs.Ends.{held}
 
 module _ (stop : ℕ → Bool) (m : Mdp) where
   -- a held state: one row back to itself

@@ -1,5 +1,5 @@
 -- The verdicts are right: yes states hold, and what holds is possible.
-use Rattle.std.proofs.Common.{◌≡◌, ℕ, zero, suc, ◌+◌, ◌*◌, ◌^◌, ◌<◌, ◌≤◌, Bool, true, false, not, ◌&&◌, ◌⊎◌, ◌↔◌, [], Some, None, Option, sym, refl, ap, ◌∙◌, inl, inr, le_trans, mul-le-mul_right}
+use Rattle.std.proofs.Common.{◌≡◌, ℕ, ◌*◌, ◌^◌, ◌<◌, ◌≤◌, Bool, true, false, not, [], Some, None, Option, refl, ap, inl, inr, le_trans, mul-le-mul_right}
 use native.Mathlib.Nat.{one-le-pow}
 use Rattle.model.specs.Mdp.{Mdp, Lawful}
 use Rattle.theory.specs.Adversaries.{Adversary, Allowed}
@@ -7,7 +7,7 @@ use Rattle.theory.specs.Tallies.{tally, next_tally}
 use Rattle.theory.specs.Rounds.{rounds}
 use Rattle.theory.specs.Mixes.{whole, greater, lesser, mix_down, mix_up}
 use Rattle.theory.specs.Ends.{start, lower, upper}
-use Rattle.theory.specs.WithoutSteps.{Extremal, over_none, at_most_none, at_least_whole, WithoutSteps, marked_set}
+use Rattle.theory.specs.WithoutSteps.{Extremal, over_none, at_most_none, at_least_whole, WithoutSteps}
 use Rattle.theory.specs.Formulas.{PathFormula, PathHolds, probability, until_within, until, extremal, Under, Comparison, below, at_most, above, at_least, Formula, truth, label, negation, conjunction, next, Fits, SetOf, Holds}
 use Rattle.theory.specs.Verdicts.{Correct, fits, VerdictSets, next_verdicts, until_within_verdicts}
 use Rattle.theory.specs.Distances.{Harder}

@@ -1,9 +1,9 @@
 -- Every formula has verdicts, on the states only one, and they are right and near: those that rounds and marks find are meant.
-use Rattle.std.proofs.Common.{◌≡◌, ℕ, ◌<◌, Bool, true, false, not, ◌&&◌, Some, None, Option, sym, refl, ap, ◌∙◌, ap₂}
+use Rattle.std.proofs.Common.{ℕ, ◌<◌, Bool, true, false, not, ◌&&◌, Some, None, Option, sym, refl, ap, ◌∙◌, ap₂}
 use Rattle.model.specs.Mdp.{Mdp, Lawful}
 use Rattle.theory.specs.WithoutSteps.{Extremal, over_none, at_most_none, at_least_whole, WithoutSteps, marked_set}
-use Rattle.theory.specs.Formulas.{Comparison, Formula, truth, label, negation, conjunction, probability, PathFormula, next, until_within, until, extremal, SetOf, Holds}
-use Rattle.theory.specs.Verdicts.{VerdictSets, Alike, SameVerdicts, known, negated, joined, next_verdicts, until_within_verdicts, ExtremalJudged, UntilJudged, Judged, PathJudged, OneVerdict, Correct, VerdictsCorrect}
+use Rattle.theory.specs.Formulas.{Comparison, Formula, truth, label, negation, conjunction, probability, PathFormula, next, until_within, until, extremal, SetOf}
+use Rattle.theory.specs.Verdicts.{VerdictSets, Alike, SameVerdicts, known, negated, joined, next_verdicts, until_within_verdicts, ExtremalJudged, UntilJudged, Judged, PathJudged, OneVerdict, VerdictsCorrect}
 use Rattle.theory.specs.Distances.{Decided, Undecided, UntilNear, NextNear, WithoutStepsDecided}
 use Rattle.theory.proofs.Meaning.{marked_iff, hardest, hardest_next}
 use Rattle.theory.proofs.Found.{extremal_verdicts, until_verdicts, verdicts, path_verdicts}

@@ -1,11 +1,11 @@
 -- Every formula has a set: what it says of a state is decided.
-use Rattle.std.proofs.Common.{◌≡◌, ℕ, zero, suc, ◌+◌, ◌*◌, ◌^◌, ◌<◌, ◌≤◌, Bool, true, false, not, ◌&&◌, ◌⊎◌, ◌↔◌, [], Some, None, Option, sym, refl, ap, ◌∙◌, inl, inr, le_trans, lt_of_lt_of_le, le_antisymm, mul-le-mul_left, arith}
+use Rattle.std.proofs.Common.{◌≡◌, ℕ, ◌*◌, ◌^◌, ◌<◌, Bool, true, false, not, ◌&&◌, ◌↔◌, [], Some, None, Option, sym, refl, ap, inl, inr, le_trans, lt_of_lt_of_le, le_antisymm, mul-le-mul_left, arith}
 use Rattle.model.specs.Mdp.{Mdp, Lawful}
 use Rattle.theory.specs.Adversaries.{Adversary, Allowed}
-use Rattle.theory.specs.Tallies.{tally, next_tally, Sure}
+use Rattle.theory.specs.Tallies.{tally, next_tally}
 use Rattle.theory.specs.Rounds.{rounds}
 use Rattle.theory.specs.Mixes.{no_first, yes_first, whole, greater, lesser}
-use Rattle.theory.specs.WithoutSteps.{MarksDecide, MarksSettled, Positive, Never, Certain, all_marks, some_marks, unmarked, Extremal, over_none, at_most_none, at_least_whole, WithoutSteps, marked_set}
+use Rattle.theory.specs.WithoutSteps.{MarksDecide, Positive, Never, Certain, unmarked, Extremal, over_none, at_most_none, at_least_whole, WithoutSteps, marked_set}
 use Rattle.theory.specs.Formulas.{PathFormula, PathHolds, probability, until_within, until, extremal, Under, Comparison, below, at_most, above, at_least, Formula, truth, label, negation, conjunction, next, Fits, SetOf, Holds, has_label}
 use Rattle.theory.specs.Verdicts.{fits}
 use Rattle.theory.specs.Distances.{Harder}

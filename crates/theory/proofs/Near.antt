@@ -1,5 +1,5 @@
 -- An undecided verdict over decided parts lies near the bound. Every formula has exactly one set.
-use Rattle.std.proofs.Common.{◌≡◌, ℕ, ◌*◌, ◌^◌, ◌<◌, ◌≤◌, Bool, true, Some, None, Option, sym, refl, ◌∙◌, subst, inl, inr, le_trans, mul-le-mul_right, arith, ltb-false, ltb-true, leb-false, leb-true}
+use Rattle.std.proofs.Common.{◌≡◌, ℕ, ◌*◌, ◌^◌, ◌<◌, ◌≤◌, Bool, Some, None, Option, sym, refl, ◌∙◌, subst, inl, inr, le_trans, mul-le-mul_right, arith, ltb-false, ltb-true, leb-false, leb-true}
 use Rattle.model.specs.Mdp.{Mdp, Lawful}
 use Rattle.theory.specs.Adversaries.{Adversary, Allowed}
 use Rattle.theory.specs.Tallies.{tally, next_tally}
@@ -7,10 +7,10 @@ use Rattle.theory.specs.Rounds.{rounds}
 use Rattle.theory.specs.Mixes.{whole, mix_down, mix_up, greater, lesser}
 use Rattle.theory.specs.Ends.{Close, start, lower, upper}
 use Rattle.theory.specs.WithoutSteps.{Extremal, over_none, at_most_none, at_least_whole}
-use Rattle.theory.specs.Formulas.{OneSet, probability, until_within, until, extremal, Under, Comparison, below, at_most, above, at_least, Formula, next, SetOf, Holds}
+use Rattle.theory.specs.Formulas.{OneSet, probability, until_within, Comparison, below, at_most, above, at_least, Formula, next, SetOf, Holds}
 use Rattle.theory.specs.Verdicts.{asked, easier_end, VerdictSets, next_verdicts, until_within_verdicts, known}
 use Rattle.theory.specs.Distances.{QueriesCorrect, Harder, StateValue, WithinUnits, Decided, Undecided}
-use Rattle.theory.proofs.Found.{until_verdicts, extremal_verdicts, verdicts}
+use Rattle.theory.proofs.Found.{until_verdicts, verdicts}
 use Rattle.theory.proofs.Lists.{true_not_false, which}
 use Rattle.theory.proofs.RuleLaws.{up_greater, up_lesser}
 use Rattle.theory.proofs.Ends.{best_some, worst_some, best_close, worst_close, greater_close, lesser_close, rounds_close}

@@ -1,11 +1,11 @@
 -- k rounds give the most preferred value among the adversaries.
-use Rattle.std.proofs.Common.{◌≡◌, ℕ, zero, suc, ◌+◌, ◌-◌, ◌<◌, ◌≤◌, Bool, true, false, cond, ◌⊎◌, List, [], ◌∷◌, ◌++◌, map, length, get_or, sym, refl, ap, ◌∙◌, subst, inl, inr, ⊎_elim, append_assoc, suc-le-suc, zero-le, le_of_suc-le-suc, not-suc-le-zero, add-zero, add_assoc, add-suc, zero-add, arith}
+use Rattle.std.proofs.Common.{◌≡◌, ℕ, zero, suc, ◌+◌, ◌-◌, ◌<◌, ◌≤◌, Bool, true, false, cond, List, [], ◌∷◌, ◌++◌, map, length, get_or, sym, refl, ap, ◌∙◌, subst, ⊎_elim, append_assoc, suc-le-suc, le_of_suc-le-suc, not-suc-le-zero, add-zero, zero-add, arith}
 use Rattle.model.specs.Mdp.{Mdp, Row, Each, Lawful, LawfulRow, Ascends, total, row}
 use Rattle.model.specs.declared.branch.Branch.{Branch}
 use Rattle.theory.specs.Adversaries.{AnAdversaryExists, Adversary, Allowed, chosen}
 use Rattle.theory.specs.Rules.{LawfulMix, RuleLaws, total_weight, valued}
 use Rattle.theory.specs.Rounds.{Optimum, most, most_of, mixed, value, round, rounds}
-use Rattle.theory.proofs.Lists.{each_at, length-map, get_d_map, not-true, true_not_false}
+use Rattle.theory.proofs.Lists.{each_at, length-map, get_d_map, true_not_false}
 
 -- every target of a row lies below n
 abbrev pub Within : ℕ → Row → Type 0
@@ -34,6 +34,28 @@ row_lawful m l s c h = each_at (LawfulRow m.states m.denominator) (m.choices s) 
 -- and its targets are states
 pub row_within : (m : Mdp) → Lawful m → (s c : ℕ) → c < length (m.choices s) → Within m.states (row m s c)
 row_within m l s c h = ascends_within m.states 0 (row m s c) (row_lawful m l s c h).ascends
+
+module _ {V : Type 0} where
+  -- the weights of a row of values are those of the row, after what stands before it
+  pub weight_after : (before : List (ℕ × V)) (v : ℕ → V) (r : Row) → total_weight (before ++ valued v r) ≡ total_weight before + total r
+  weight_after [] v [] = omega arith
+  weight_after [] v (b ∷ bs) = rw (weight_after [] v bs) (omega arith)
+  weight_after (p ∷ ps) v r = rw (weight_after ps v r) (omega arith)
+
+  -- what holds of the weights of a row holds of those of its row of values
+  each_weight : (P : ℕ → Type 0) (v : ℕ → V) (r : Row) → Each (λ (b : Branch). P b.weight) r → Each (λ (p : ℕ × V). P p.0) (valued v r)
+  each_weight P v [] e = tt
+  each_weight P v (b ∷ bs) e = (e.0, each_weight P v bs e.1)
+
+  -- such a row of values, some branches of it given already, is lawful
+  pub mix_lawful : (d : ℕ) (before : List (ℕ × V)) (v : ℕ → V) (r : Row) → (1 ≤ d) × (d ≤ 1000000) → Each (λ (p : ℕ × V). 1 ≤ p.0) before →
+      Each (λ (b : Branch). 1 ≤ b.weight) r → total_weight before + total r ≡ d → LawfulMix d (before ++ valued v r)
+  mix_lawful d before v r u x y e = record {
+    some_unit = u.0;
+    few_units = u.1;
+    weights = each_append (λ (p : ℕ × V). 1 ≤ p.0) before (valued v r) x (each_weight (λ w. 1 ≤ w) v r y);
+    sums = weight_after before v r ∙ e;
+  }
 
 module _ {V : Type 0} (at_least_as_good : V → V → Bool) where
   -- where the most preferred stands
@@ -73,27 +95,6 @@ module _ {V : Type 0} (at_least_as_good : V → V → Bool) (mix : ℕ → List 
   most_of_best d e [] i h = absurd (not-suc-le-zero h)
   most_of_best d e (x ∷ xs) i h = most_best e x xs i h
 
-  -- better values at every target never make the mix of a row less preferred
-  weight_after : (before : List (ℕ × V)) (v : ℕ → V) (r : Row) → total_weight (before ++ valued v r) ≡ total_weight before + total r
-  weight_after [] v [] = omega arith
-  weight_after [] v (b ∷ bs) = rw (weight_after [] v bs) (omega arith)
-  weight_after (p ∷ ps) v r = rw (weight_after ps v r) (omega arith)
-
-  -- the weights of a row of values are those of the row
-  each_weight : (P : ℕ → Type 0) (v : ℕ → V) (r : Row) → Each (λ (b : Branch). P b.weight) r → Each (λ (p : ℕ × V). P p.0) (valued v r)
-  each_weight P v [] e = tt
-  each_weight P v (b ∷ bs) e = (e.0, each_weight P v bs e.1)
-
-  -- such a row of values, some branches of it given already, is lawful
-  mix_lawful : (d : ℕ) (before : List (ℕ × V)) (v : ℕ → V) (r : Row) → (1 ≤ d) × (d ≤ 1000000) → Each (λ (p : ℕ × V). 1 ≤ p.0) before →
-      Each (λ (b : Branch). 1 ≤ b.weight) r → total_weight before + total r ≡ d → LawfulMix d (before ++ valued v r)
-  mix_lawful d before v r u x y e = record {
-    some_unit = u.0;
-    few_units = u.1;
-    weights = each_append (λ (p : ℕ × V). 1 ≤ p.0) before (valued v r) x (each_weight (λ w. 1 ≤ w) v r y);
-    sums = weight_after before v r ∙ e;
-  }
-
   -- values at least as good at every target, one branch after another
   pub mix_after : (d n : ℕ) (before : List (ℕ × V)) (f g : ℕ → V) (r : Row) → (1 ≤ d) × (d ≤ 1000000) → Each (λ (p : ℕ × V). 1 ≤ p.0) before →
       Each (λ (b : Branch). 1 ≤ b.weight) r → total_weight before + total r ≡ d → Within n r →
@@ -107,7 +108,7 @@ module _ {V : Type 0} (at_least_as_good : V → V → Bool) (mix : ℕ → List 
       (mix_after d n (before ++ ((b.weight, g b.target) ∷ [])) f g bs u
       (each_append (λ (p : ℕ × V). 1 ≤ p.0) before ((b.weight, g b.target) ∷ []) x (y.0, tt)) y.1 (omega (arith, weight_after before g (b ∷ []))) w.1 h))
 
-  -- over the whole row
+  -- over the whole row: better values at every target never make its mix less preferred
   pub mixed_better : (m : Mdp) → Lawful m → (f g : ℕ → V) (r : Row) → LawfulRow m.states m.denominator r →
       ((t : ℕ) → t < m.states → at_least_as_good (f t) (g t) ≡ true) → at_least_as_good (mixed mix m f r) (mixed mix m g r) ≡ true
   mixed_better m u f g r l h = mix_after m.denominator m.states [] f g r (u.some_unit, u.few_units) tt (ascends_weights m.states 0 r l.ascends)

@@ -1,8 +1,7 @@
 -- The rules keep the laws.
-use Rattle.std.proofs.Common.{◌≡◌, ℕ, zero, suc, ◌+◌, ◌-◌, ◌*◌, ◌/◌, ◌<◌, ◌≤◌, Bool, true, false, not, ◌||◌, leb, ◌⊎◌, List, [], ◌∷◌, ◌++◌, sym, refl, ap, ◌∙◌, subst, inl, inr, ⊎_elim, le_trans, le_of_eq, le_refl, eq-zero-or-pos, le_antisymm, mul-le-mul_left, le-div_iff_mul-le, div-mul-le_self, arith, le-leb, leb-false, leb-true}
+use Rattle.std.proofs.Common.{◌≡◌, ℕ, zero, suc, ◌+◌, ◌-◌, ◌/◌, ◌≤◌, Bool, true, false, ◌||◌, leb, ◌⊎◌, List, [], ◌∷◌, ◌++◌, sym, refl, ◌∙◌, inl, inr, le_trans, le_refl, le_antisymm, mul-le-mul_left, le-div_iff_mul-le, div-mul-le_self, arith, le-leb, leb-false, leb-true}
 use native.Mathlib.Nat.{div-zero}
-use native.Mathlib.Decide.{dec_le}
-use Rattle.theory.specs.Rules.{RuleLaws, total_weight}
+use Rattle.theory.specs.Rules.{RuleLaws}
 use Rattle.theory.specs.Mixes.{RulesLawful, sum_of, mix_down, mix_up, mix_marks, greater, lesser, yes_first, no_first}
 
 -- a greater value makes the sum no smaller

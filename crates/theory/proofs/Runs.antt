@@ -1,12 +1,11 @@
 -- Runs are the paths that follow the adversary, each exactly once.
-use Rattle.std.proofs.Common.{◌≡◌, ℕ, zero, suc, ◌+◌, ◌*◌, ◌<◌, ◌≤◌, Bool, true, false, cond, ◌&&◌, eqb, ◌⊎◌, List, [], ◌∷◌, ◌++◌, map, length, sym, refl, ap, ◌∙◌, subst, ap₂, inl, inr, not-suc-le-zero, arith, eq-eqb, ne_eqb, eqb-true}
+use Rattle.std.proofs.Common.{◌≡◌, ℕ, zero, suc, ◌+◌, ◌*◌, ◌<◌, ◌≤◌, Bool, false, eqb, List, [], ◌∷◌, ◌++◌, map, length, sym, refl, ap, ◌∙◌, subst, ap₂, inl, inr, not-suc-le-zero, arith, eq-eqb, ne_eqb, eqb-true}
 use mathlib.Core.Path.{fun_ext}
-use borrow.Author.Tests.{eqb-false}
-use Rattle.model.specs.Mdp.{Mdp, Row, Each, Lawful, Ascends, LawfulRow}
+use Rattle.model.specs.Mdp.{Mdp, Row, Each, Lawful, Ascends}
 use Rattle.model.specs.declared.branch.Branch.{Branch}
 use Rattle.theory.specs.Adversaries.{Adversary, Allowed, chosen}
-use Rattle.theory.specs.Tallies.{Run, step, gather, runs, weight_to, Follows, path_weight, same_path, count, IsPath, RunsArePaths, RunsCorrect}
-use Rattle.theory.proofs.Lists.{which, true_not_false}
+use Rattle.theory.specs.Tallies.{Run, step, gather, runs, weight_to, Follows, same_path, count, IsPath, RunsCorrect}
+use Rattle.theory.proofs.Lists.{which}
 use Rattle.theory.proofs.Rounds.{Within, ascends_within, row_lawful, each_append}
 use Rattle.theory.proofs.Tallies.{weigh_all}
 

@@ -1,5 +1,5 @@
 -- Marks that only grow settle within as many rounds as there are states.
-use Rattle.std.proofs.Common.{◌≡◌, ℕ, zero, suc, ◌+◌, ◌-◌, ◌<◌, ◌≤◌, Bool, true, false, cond, not, ◌||◌, ◌⊎◌, sym, refl, ap, ◌∙◌, inl, inr, le_refl, le_of_suc-le-suc, not-suc-le-zero, suc-add, eq-or-lt_of_le, zero-add, sub-add_cancel, arith}
+use Rattle.std.proofs.Common.{◌≡◌, ℕ, zero, suc, ◌+◌, ◌-◌, ◌<◌, ◌≤◌, Bool, true, false, cond, not, ◌⊎◌, sym, refl, ◌∙◌, inl, inr, le_refl, le_of_suc-le-suc, not-suc-le-zero, suc-add, eq-or-lt_of_le, zero-add, sub-add_cancel, arith}
 use mathlib.Core.Bool.{or-false}
 use Rattle.model.specs.Mdp.{Mdp, Lawful}
 use Rattle.theory.specs.Rules.{RuleLaws}
@@ -63,17 +63,17 @@ module _ (m : Mdp) (marks : ℕ → ℕ → Bool) (grow : (k s : ℕ) → s < m.
   settle = settle_from (suc m.states) 0 (omega arith) (omega arith)
 
 -- no preferred: what is marked stays marked
-no_first_grows : (x y : Bool) → no_first x y ≡ true → x ≡ true → y ≡ true
+pub no_first_grows : (x y : Bool) → no_first x y ≡ true → x ≡ true → y ≡ true
 no_first_grows true y e f = e
 no_first_grows false y e f = true_not_false false f refl
 
 -- and the other way round
-from_no_first : (x y : Bool) → (x ≡ true → y ≡ true) → no_first x y ≡ true
+pub from_no_first : (x y : Bool) → (x ≡ true → y ≡ true) → no_first x y ≡ true
 from_no_first true y h = h refl
 from_no_first false y h = refl
 
 -- the same for yes preferred
-from_yes_first : (x y : Bool) → (y ≡ true → x ≡ true) → yes_first x y ≡ true
+pub from_yes_first : (x y : Bool) → (y ≡ true → x ≡ true) → yes_first x y ≡ true
 from_yes_first true y h = refl
 from_yes_first false true h = h refl
 from_yes_first false false h = refl

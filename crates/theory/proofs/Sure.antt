@@ -1,13 +1,13 @@
 -- Untils without steps: where every adversary is sure.
-use Rattle.std.proofs.Common.{◌≡◌, ℕ, zero, suc, ◌+◌, ◌-◌, ◌*◌, ◌^◌, ◌<◌, ◌≤◌, Bool, true, false, cond, not, ◌&&◌, ◌||◌, ◌⊎◌, ◌↔◌, List, [], ◌∷◌, map, length, sym, refl, ap, ◌∙◌, subst, inl, inr, suc-le-suc, zero-le, le_trans, le_of_eq, le_refl, add-zero, mul-le-mul_right, suc-mul, mul-le-mul, add_comm, suc-add, mul-le-mul_left, zero-add, zero-mul, le-mul_of_pos_right, arith}
+use Rattle.std.proofs.Common.{◌≡◌, ℕ, zero, suc, ◌+◌, ◌-◌, ◌*◌, ◌^◌, ◌<◌, ◌≤◌, Bool, true, false, cond, not, ◌↔◌, List, [], ◌∷◌, length, sym, refl, ap, ◌∙◌, inl, inr, suc-le-suc, zero-le, le_trans, add-zero, mul-le-mul_right, suc-mul, add_comm, suc-add, mul-le-mul_left, zero-add, zero-mul, le-mul_of_pos_right, arith}
 use mathlib.Core.Path.{fun_ext}
 use mathlib.Core.Bool.{or-false, and-false}
 use native.Mathlib.Nat.{pow-succ', pow-zero, one-le-pow}
-use Rattle.model.specs.Mdp.{Mdp, Row, Lawful, LawfulRow, Ascends, total, row, hold}
+use Rattle.model.specs.Mdp.{Mdp, Row, Lawful, total, row}
 use Rattle.theory.specs.Adversaries.{Adversary, Allowed, chosen}
 use Rattle.theory.specs.Tallies.{Run, runs, meets, weigh, tally_after, tally, Sure}
 use Rattle.theory.specs.Rules.{valued}
-use Rattle.theory.specs.Rounds.{mixed, value, round, rounds}
+use Rattle.theory.specs.Rounds.{mixed}
 use Rattle.theory.specs.Mixes.{mix_marks, no_first, yes_first}
 use Rattle.theory.specs.Ends.{held, stops}
 use Rattle.theory.specs.WithoutSteps.{Certain, all_marks, some_marks, unmarked, Settled}
@@ -15,10 +15,9 @@ use Rattle.theory.proofs.Lists.{true_not_false, which}
 use Rattle.theory.proofs.Rounds.{Within, row_lawful, row_within, round_best, choose, optimal, optimal_allowed, optimal_row}
 use Rattle.theory.proofs.RuleLaws.{marks_greater, marks_lesser}
 use Rattle.theory.proofs.Tallies.{spread, spread_mul, weigh_suc, runs_of, weigh_all, weigh_none}
-use Rattle.model.specs.HoldLaws.{hold_lawful}
-use Rattle.theory.proofs.Holding.{unheld_allowed, unheld_row, rounds_stay, Kind, reached, lost, under_way, kind}
-use Rattle.theory.proofs.WithoutSteps.{or_no, spread_some, spread_where, positive_after, unmarked_not_right, closed, unmarked_none, held_lawful}
-use Rattle.theory.proofs.Powers.{pow-add, pow_times, enough}
+use Rattle.theory.proofs.Holding.{unheld_allowed, unheld_row, rounds_stay, reached, lost, under_way, kind}
+use Rattle.theory.proofs.WithoutSteps.{or_no, spread_some, spread_where, positive_after, closed, unmarked_none, held_lawful}
+use Rattle.theory.proofs.Powers.{pow_times, enough}
 
 -- yes preferred: what is marked stays marked
 pub yes_first_yes : (x y : Bool) → yes_first x y ≡ true → y ≡ true → x ≡ true

@@ -1,11 +1,11 @@
 -- The recursion of the tally, from the paths.
-use Rattle.std.proofs.Common.{◌≡◌, ℕ, zero, suc, ◌+◌, ◌*◌, ◌^◌, ◌<◌, ◌≤◌, Bool, true, false, cond, not, ◌&&◌, ◌||◌, List, [], ◌∷◌, ◌++◌, map, length, sym, refl, ap, ◌∙◌, subst, ap₂, add-zero, add_assoc, mul_assoc, mul_comm, add-mul, mul-le-mul_left, pow-suc, mul-zero, zero-add, mul-add, arith}
+use Rattle.std.proofs.Common.{◌≡◌, ℕ, zero, suc, ◌+◌, ◌*◌, ◌^◌, ◌<◌, ◌≤◌, Bool, true, false, cond, List, [], ◌∷◌, ◌++◌, map, sym, refl, ap, ◌∙◌, ap₂, mul-le-mul_left, mul-zero, arith}
 use mathlib.Core.Path.{fun_ext}
 use mathlib.Core.Bool.{and-false}
 use native.Mathlib.Nat.{pow-zero, pow-succ'}
-use Rattle.model.specs.Mdp.{Mdp, Row, Lawful, LawfulRow, total, row}
+use Rattle.model.specs.Mdp.{Mdp, Row, Lawful, total}
 use Rattle.theory.specs.Adversaries.{Adversary, Allowed, chosen}
-use Rattle.theory.specs.Tallies.{Run, step, gather, runs, meets, weigh, tally_after, tally}
+use Rattle.theory.specs.Tallies.{Run, step, gather, runs, meets, weigh, tally_after}
 use Rattle.theory.proofs.Rounds.{Within, row_lawful, row_within}
 
 -- the sum of weight × f target over a row

@@ -1,21 +1,21 @@
 -- Untils without steps: what the settled marks say of the tallies.
-use Rattle.std.proofs.Common.{◌≡◌, ℕ, zero, suc, ◌+◌, ◌-◌, ◌*◌, ◌^◌, ◌<◌, ◌≤◌, Bool, true, false, cond, not, ◌&&◌, ◌||◌, ◌⊎◌, ◌↔◌, List, [], ◌∷◌, map, length, sym, refl, ap, ◌∙◌, subst, inl, inr, le_trans, le_of_eq, le_refl, not-suc-le-zero, mul-le-mul_right, suc-mul, mul-le-mul, suc-add, mul-le-mul_left, zero-add, arith}
+use Rattle.std.proofs.Common.{◌≡◌, ℕ, zero, suc, ◌+◌, ◌<◌, ◌≤◌, Bool, true, false, ◌||◌, ◌↔◌, List, [], ◌∷◌, sym, refl, ◌∙◌, inl, inr, le_of_eq, le_refl, not-suc-le-zero, mul-le-mul_right, mul-le-mul_left, arith}
 use mathlib.Core.Bool.{or-false}
-use native.Mathlib.Nat.{pow-succ', pow-zero, one-le-pow}
-use Rattle.model.specs.Mdp.{Mdp, Row, Lawful, LawfulRow, Ascends, total, row, hold}
+use native.Mathlib.Nat.{one-le-pow}
+use Rattle.model.specs.Mdp.{Mdp, Row, Lawful, Ascends}
 use Rattle.theory.specs.Adversaries.{Adversary, Allowed, chosen}
-use Rattle.theory.specs.Tallies.{runs, meets, weigh, tally_after, tally, Sure}
-use Rattle.theory.specs.Rules.{RuleLaws, valued}
-use Rattle.theory.specs.Rounds.{mixed, value, round, rounds}
+use Rattle.theory.specs.Tallies.{tally_after}
+use Rattle.theory.specs.Rules.{valued}
+use Rattle.theory.specs.Rounds.{mixed, value}
 use Rattle.theory.specs.Mixes.{mix_marks, no_first, yes_first}
 use Rattle.theory.specs.Ends.{held, stops}
-use Rattle.theory.specs.WithoutSteps.{Positive, Never, Certain, all_marks, some_marks, Settled}
+use Rattle.theory.specs.WithoutSteps.{Positive, Never, all_marks, some_marks, Settled}
 use Rattle.theory.proofs.Lists.{true_not_false, which}
-use Rattle.theory.proofs.Rounds.{Within, row_lawful, row_within, ascends_within, none_better, some_adversary, round_best, choose, optimal, optimal_allowed, optimal_row}
+use Rattle.theory.proofs.Rounds.{Within, row_lawful, row_within, none_better, some_adversary, round_best, choose}
 use Rattle.theory.proofs.RuleLaws.{marks_greater, marks_lesser}
-use Rattle.theory.proofs.Tallies.{spread, spread_mul, spread_le, spread_const, tally_right, tally_out, tally_none, tally_on, weigh_suc, runs_of, weigh_all, weigh_none}
+use Rattle.theory.proofs.Tallies.{spread, spread_const, tally_right, tally_out, tally_none, tally_on}
 use Rattle.model.specs.HoldLaws.{hold_lawful}
-use Rattle.theory.proofs.Holding.{unheld_allowed, lifted, lifted_allowed, lifted_row, unheld_row, stay, rounds_stay, Kind, reached, lost, under_way, kind}
+use Rattle.theory.proofs.Holding.{unheld_allowed, lifted, lifted_allowed, lifted_row, unheld_row, stay, rounds_stay, reached, lost, under_way, kind}
 
 -- neither is true
 pub or_no : (x y : Bool) → (x || y) ≡ false → (x ≡ false) × (y ≡ false)
