@@ -1,12 +1,11 @@
 -- What the words of the command line ask for.
-use Rattle.std.specs.Prelude.{ℕ, Bool, cond, ◌&&◌, ◌||◌, List, [], ◌∷◌, ◌++◌, map, length, Some, None, codes, Option, ◌==◌, nat_lt, slice_index_or}
+use Rattle.std.specs.Prelude.{ℕ, Bool, cond, ◌&&◌, List, [], length, Some, None, codes, Option, ◌==◌, nat_lt, slice_index_or}
 use Rattle.text.specs.Fields.{lawful_number, amount}
 use Rattle.text.specs.Words.{same}
 use Rattle.console.specs.declared.command.Verb.{Verb}
 use Rattle.console.specs.declared.command.Verb.TheVariants as verb
 use Rattle.console.specs.declared.command.ModelName.{ModelName}
 use Rattle.console.specs.declared.command.ModelName.TheVariants.{File, Ladder}
-use Rattle.console.specs.declared.command.Mistake.{Mistake}
 use Rattle.console.specs.declared.command.Mistake.TheVariants.{NoCommand, NoSuchCommand, NoModel, TooMany, NoLadder}
 use Rattle.console.specs.declared.command.Command.{Command}
 use Rattle.console.specs.declared.command.Command.TheVariants.{Help, Show, Write, Wrong}

@@ -4,6 +4,7 @@
 use console::answer::{path, reply};
 use console::reply::Reply;
 use std::io::Write;
+use std::process::ExitCode;
 use std::{env, fs, io};
 
 // Reads the file that the command line names, and prints the reply: true where nothing is refused or wrong.
@@ -29,13 +30,13 @@ fn run(rt: &HostRuntime) -> io::Result<bool> {
     }
 }
 
-fn main(rt: HostRuntime) -> io::Result<()> {
+fn main(rt: HostRuntime) -> io::Result<ExitCode> {
     match run(&rt) {
-        Ok(true) => Ok(()),
-        Ok(false) => Err(io::Error::from(io::ErrorKind::InvalidInput)),
+        Ok(true) => Ok(ExitCode::SUCCESS),
+        Ok(false) => Ok(ExitCode::FAILURE),
         Err(error) => {
             eprintln!(rt; "kavzhubo: {error}")?;
-            Err(io::Error::from(io::ErrorKind::Other))
+            Ok(ExitCode::FAILURE)
         }
     }
 }

@@ -6,4 +6,4 @@ use Rattle.console.proofs.answer.show_reply.Goals as goal
 pub returns-in-Ok : goal.returns-in-Ok
 returns-in-Ok c =
     let accepted = c.in-Ok.ensures in
-    accepted_model Listing c.args.text.now _ (answer_of c.in-ok-reply.reply) accepted.passed accepted.describes c.in-ok-reply.ensures
+    accepted_model Listing c.args.text.now _ (answer_of c.in_ok-reply-in-Ok.reply) accepted.passed accepted.describes c.in_ok-reply-in-Ok.ensures
