@@ -1,7 +1,6 @@
 -- What the reader knows of what it has read, and that it is so of the formula that stands there.
-use Rattle.std.specs.Prelude.{◌≡◌, ℕ, ◌+◌, ◌-◌, ◌<◌, ◌≤◌, max, List, [], ◌∷◌, length, is_some, Some, None, Ok, Err, Option, Result, nat_le}
+use Rattle.std.specs.Prelude.{◌≡◌, ℕ, ◌+◌, ◌-◌, ◌<◌, ◌≤◌, max, List, [], ◌∷◌, length, is_some, Some, None, Ok, Err, Option, Result, nat_le, slice_set}
 use Rattle.std.specs.Option.{option_or}
-use Rattle.model.specs.Mdp.{overlaid}
 use Rattle.text.specs.Refusals.{ask}
 use Rattle.theory.specs.Mixes.{whole}
 use Rattle.theory.specs.Formulas.{Comparison, Formula, PathFormula, extremal, most_steps}
@@ -78,6 +77,11 @@ probability at b p end = entire (preceded (ask (nat_le b.number whole) b.place) 
 -- its record
 abbrev pub path_record : Path → Bound → Record
 path_record p b = line p.kind p.first p.second (Some b.comparison) b.number p.steps
+
+-- a list with others written over it from place k on, as far as it goes
+abbrev pub overlaid : {A : Type 0} → List A → ℕ → List A → List A
+overlaid under k [] = under
+overlaid under k (x ∷ xs) = overlaid (slice_set under k x) (k + 1) xs
 
 -- a state formula stands in the text from `at` on, what is known of it is so, and its records are written from number `count` on
 pub record StateRead (text : List ℕ) (at count : ℕ) (lent left : List Record) (r : Reading) : Type 0 where

@@ -2,8 +2,8 @@
 use Rattle.std.proofs.Common.{◌+◌, ◌-◌, ◌*◌, length}
 use Rattle.formula.proofs.formulas.+path_formula_state_formula.Given as goal
 
-abbrev pub decreases-path-formula : goal.decreases-path-formula
-decreases-path-formula l = 2 * (length l.text.now - l.at) + 1
+abbrev pub decreases-path_formula : goal.decreases-path_formula
+decreases-path_formula l = 2 * (length l.text.now - l.at) + 1
 
-abbrev pub decreases-state-formula : goal.decreases-state-formula
-decreases-state-formula l = 2 * (length l.text.now - l.at)
+abbrev pub decreases-state_formula : goal.decreases-state_formula
+decreases-state_formula l = 2 * (length l.text.now - l.at)

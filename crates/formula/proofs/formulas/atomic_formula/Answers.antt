@@ -6,14 +6,14 @@ use Rattle.formula.proofs.Forms.{read_truth, read_label, known}
 use Rattle.formula.proofs.formulas.atomic_formula.Goals as goal
 use Rattle.formula.proofs.formulas.atomic_formula.Goals.{else-at-text-via-then-at-text+then-text-at-ge97+else-text-at-le112, else-at-text-via-then-at-text+else-text-at-ge97, else-at-text-via-else-at-text}
 
-pub returns-in-err-end : goal.returns-in-err-end
-returns-in-err-end c =
-    let p = err_from_is_err_and c.from-residual.result c.from-residual.ensures.1 in
+pub returns-in_err-end : goal.returns-in_err-end
+returns-in_err-end c =
+    let p = err_from_is_err_and c.from_residual.result c.from_residual.ensures.1 in
     let here = has_true _ _ _ (sym c.if-stands.ensures) in
-    rw (p.1, p.2) (true_refused _ _ here.0 here.1 c.in-err-end.ensures)
+    rw (p.1, p.2) (true_refused _ _ here.0 here.1 c.in_err-end.ensures)
 
 pub returns-then-stands : goal.returns-then-stands
-returns-then-stands c = known c.atom.ensures (read_truth (omega arith) c.in-ok-end.ensures c.atomic.ensures c.put.ensures)
+returns-then-stands c = known c.atom.ensures (read_truth (omega arith) c.in_ok-end.ensures c.atomic.ensures c.put.ensures)
 
 pub returns-then-text-at-le112 : goal.returns-then-text-at-le112
 returns-then-text-at-le112 c =

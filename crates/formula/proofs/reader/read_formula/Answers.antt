@@ -13,12 +13,12 @@ returns-then-text-lt1 c = record {
   answer = (λ h. ⊎_elim (λ short. omega (arith, short, h.0)) (λ long. omega (arith, long.1, h.1)) c.then-text-lt1.either, refl);
 }
 
-pub returns-in-err-count : goal.returns-in-err-count
-returns-in-err-count c = record {
+pub returns-in_err-count : goal.returns-in_err-count
+returns-in_err-count c = record {
   reading = one_reading;
   limits = limits;
   places = places;
-  answer = let p = err_from_is_err_and c.from-residual.result c.from-residual.ensures.1 in rw (p.1, p.2) ((omega arith, omega arith), c.in-err-count.ensures);
+  answer = let p = err_from_is_err_and c.from_residual.result c.from_residual.ensures.1 in rw (p.1, p.2) ((omega arith, omega arith), c.in_err-count.ensures);
 }
 
 pub returns : goal.returns
@@ -26,5 +26,5 @@ returns c = record {
   reading = one_reading;
   limits = limits;
   places = places;
-  answer = ((omega arith, omega arith), c.in-ok-count.ensures);
+  answer = ((omega arith, omega arith), c.in_ok-count.ensures);
 }
