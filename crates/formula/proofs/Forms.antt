@@ -20,8 +20,7 @@ use Rattle.formula.specs.declared.reading.Path.{Path}
 use Rattle.formula.specs.Tokens.{meant, BoundRead, StepsRead, JustReads, TrueReads}
 use Rattle.formula.specs.Records.{size, path_size, coded, line, own, path_kind, path_first, path_second, path_steps, records, path_records}
 use Rattle.formula.specs.Questions.{first_large, path_first_large, unbounded, first_unbounded, path_first_unbounded, depth}
-use Rattle.formula.specs.Readings.{overlaid}
-use Rattle.formula.specs.Readings.{kind_unbounded, atom, joined, entire, next_path, until_path, probability, path_record, StateRead, PathRead, StateReads, AtomReads}
+use Rattle.formula.specs.Readings.{kind_unbounded, atom, joined, entire, next_path, until_path, probability, path_record, overlaid, StateRead, PathRead, StateReads, AtomReads}
 
 -- what is written over what was written
 overlaid_append : (lent : List Record) (k n : ℕ) (rs xs : List Record) → n ≡ k + length rs → overlaid (overlaid lent k rs) n xs ≡ overlaid lent k (rs ++ xs)

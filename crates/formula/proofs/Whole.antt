@@ -10,8 +10,7 @@ use Rattle.records.specs.declared.record.Record.{Record}
 use Rattle.formula.specs.declared.reading.Reading.{Reading}
 use Rattle.formula.specs.Records.{size, records}
 use Rattle.formula.specs.Questions.{first_large, depth, fault_by, formula_fault}
-use Rattle.formula.specs.Readings.{overlaid}
-use Rattle.formula.specs.Readings.{StateRead}
+use Rattle.formula.specs.Readings.{overlaid, StateRead}
 use Rattle.formula.specs.Answers.{Begins, NoFormula, WholeRead, Within, Accepted}
 use Rattle.formula.proofs.Forms.{state_word, length_records}
 use Rattle.formula.proofs.Limits.{limits}
