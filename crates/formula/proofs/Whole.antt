@@ -1,0 +1,123 @@
+-- From what is read at the start of a text to the whole text.
+use Rattle.std.proofs.Common.{◌≡◌, ℕ, zero, suc, ◌+◌, ◌-◌, ◌<◌, ◌≤◌, List, [], ◌∷◌, ◌++◌, length, take, drop, None, sym, refl, ap, ◌∙◌, subst, append_assoc, append-nil, arith, length-append, length-drop}
+use Rattle.std.proofs.lemmas.List.{drop_all, set_at, take_all}
+use Rattle.theory.specs.Formulas.{Formula}
+use Rattle.grammar.specs.Words.{Language, Shut, Stands, Refused}
+use Rattle.grammar.specs.Spelling.{print, Spelled}
+use Rattle.grammar.specs.Languages.{StateWord}
+use Rattle.grammar.proofs.Readings.{only}
+use Rattle.records.specs.declared.record.Record.{Record}
+use Rattle.formula.specs.declared.reading.Reading.{Reading}
+use Rattle.formula.specs.Records.{size, records}
+use Rattle.formula.specs.Questions.{first_large, depth, fault_by, formula_fault}
+use Rattle.formula.specs.Readings.{overlaid, StateRead}
+use Rattle.formula.specs.Answers.{Begins, NoFormula, WholeRead, Within, Accepted}
+use Rattle.formula.proofs.Forms.{state_word, length_records}
+use Rattle.formula.proofs.Limits.{limits}
+
+-- the beginning of a list that goes past its front
+take_past : (u v : List ℕ) (m n : ℕ) → n ≡ length u + m → take n (u ++ v) ≡ u ++ take m v
+take_past [] v m n e = ap (λ z. take z v) (let q : n ≡ m = omega (arith, e) in q)
+take_past (x ∷ u) v m zero e = absurd (omega (arith, e))
+take_past (x ∷ u) v m (suc n) e = ap (λ z. x ∷ z) (take_past u v m n (omega (arith, e)))
+
+-- a front that the next byte shuts begins no word with more of the rest
+shut_more : (L : Language) (front rest : List ℕ) → Shut L front rest → (m : ℕ) → 0 < m → m ≤ length rest → (r : List ℕ) → L (front ++ (take m rest ++ r)) → ⊥
+shut_more L front [] h m some l r w = omega (arith, some, l)
+shut_more L front (d ∷ rest) h zero some l r w = omega (arith, some)
+shut_more L front (d ∷ rest) h (suc m) some l r w = h (take m rest ++ r) w
+
+-- a front of the text that begins a formula, that the next byte shuts, and that is not the whole text and a formula
+no_formula : (text front : List ℕ) (p : ℕ) → Stands front text 0 p → Shut StateWord front (drop p text) → Begins front → (length text ≤ p → StateWord front → ⊥) → NoFormula text p
+no_formula text front p s shut begun whole = record {
+  none = λ w. none (drop p text) refl w;
+  within = s.within;
+  begins = subst Begins (sym exact) begun;
+  longest = λ n more l b.
+      let m = n - p in
+      let split : take n text ≡ front ++ take m (drop p text) =
+      ap (take n) s.splits ∙ take_past front (drop p text) m n (omega (arith, more, place)) in
+      shut_more StateWord front (drop p text) shut m (omega (arith, more)) (omega (arith, l, length-drop p text)) b.0
+      (subst StateWord (ap (λ z. z ++ b.0) split ∙ append_assoc front (take m (drop p text)) b.0) b.1);
+}
+  where
+    place : p ≡ length front
+    place = omega (arith, s.place)
+
+    exact : take p text ≡ front
+    exact = ap (take p) s.splits ∙ take_past front (drop p text) 0 p (omega (arith, place)) ∙ append-nil front
+
+    none : (rest : List ℕ) → drop p text ≡ rest → StateWord text → ⊥
+    none [] e w = whole (omega (arith, ap length e, length-drop p text)) (subst StateWord (s.splits ∙ ap (λ z. front ++ z) e ∙ append-nil front) w)
+    none (d ∷ rest) e w =
+        let never : Shut StateWord front (d ∷ rest) = subst (Shut StateWord front) e shut in
+        never rest (subst StateWord (s.splits ∙ ap (λ z. front ++ z) e) w)
+
+-- where reading breaks off, the text is no formula
+pub broken_off : (text : List ℕ) (p : ℕ) → Refused StateWord text 0 p → NoFormula text p
+broken_off text p s = no_formula text s.front p s.stands s.shuts (let (c, r, w) = s.opens in (c ∷ r, w)) (λ _. s.none)
+
+module _ {text : List ℕ} {lent left : List Record} {r : Reading} (s : StateRead text 0 0 lent left r) where
+  -- where more stands behind a formula, it is none either
+  pub more_behind : (r.end ≡ length text → ⊥) → NoFormula text r.end
+  more_behind short =
+      no_formula text (print s.formula) r.end s.stands (state_word s).ends ([], (s.formula, s.spelled, append-nil (print s.formula)))
+      (λ l. absurd (short (omega (arith, l, s.within))))
+
+  -- else it is the formula
+  whole_text : r.end ≡ length text → text ≡ print s.formula
+  whole_text e = s.stands.splits ∙ ap (λ z. print s.formula ++ z) (drop_all r.end text (omega (arith, e))) ∙ append-nil (print s.formula)
+
+  -- and what is known of it is so of the whole text
+  pub whole_read : r.end ≡ length text → WholeRead text r
+  whole_read e = record {
+    formula = s.formula;
+    spelled = s.spelled;
+    spells = whole_text e;
+    counts = omega (arith, s.counts);
+    deep = s.deep;
+    large = s.large;
+    unbounded = s.unbounded;
+  }
+
+  -- what is read again is the same formula
+  pub same_formula : (f : Formula) → Spelled f → text ≡ print f → s.formula ≡ f
+  same_formula f l e = only s.formula s.spelled f (drop r.end text) [] l (sym s.stands.splits ∙ e ∙ sym (append-nil (print f)))
+
+-- the fault that is found by what is known is the formula's
+pub same_fault : {text : List ℕ} {r : Reading} (n : ℕ) (s : WholeRead text r) → fault_by r.large r.depth r.count n r.unbounded ≡ formula_fault n s.formula
+same_fault {text} {r} n s =
+    ap (λ z. fault_by z r.depth r.count n r.unbounded) s.large
+    ∙ ap (λ z. fault_by (first_large 0 s.formula) z r.count n r.unbounded) s.deep
+    ∙ ap (λ z. fault_by (first_large 0 s.formula) (depth s.formula) z n r.unbounded) s.counts
+    ∙ ap (λ z. fault_by (first_large 0 s.formula) (depth s.formula) (size s.formula) n z) s.unbounded
+
+-- what is written over the front of a list stands there, and what is beyond it is as it was
+overlaid_at : (u v rs : List Record) (k : ℕ) → k ≡ length u → length rs ≤ length v → overlaid (u ++ v) k rs ≡ u ++ (rs ++ drop (length rs) v)
+overlaid_at u v [] k e l = refl
+overlaid_at u [] (r ∷ rs) k e l = absurd (omega (arith, l))
+overlaid_at u (x ∷ v) (r ∷ rs) k e l =
+    ap (λ z. overlaid z (k + 1) rs) (set_at u x v r k (sym e) ∙ sym (append_assoc u (r ∷ []) v))
+    ∙ overlaid_at (u ++ (r ∷ [])) v rs (k + 1) (omega (arith, e, length-append u (r ∷ []))) (omega (arith, l))
+    ∙ append_assoc u (r ∷ []) (rs ++ drop (length rs) v)
+
+-- where the whole text is read again, it is accepted
+pub accepted : {text : List ℕ} {lent left : List Record} {r r' : Reading} (s : WholeRead text r) → StateRead text 0 0 lent left r' → fault_by r.large r.depth r.count (length lent) r.unbounded ≡ None → Accepted text lent left r.count
+accepted {text} {lent} {left} {r} {r'} s again clear = record {
+  formula = s.formula;
+  spelled = s.spelled;
+  spells = s.spells;
+  limits = sym (same_fault (length lent) s) ∙ clear;
+  number = s.counts;
+  written =
+      again.written
+      ∙ ap (λ z. overlaid lent 0 (records 0 z)) (same_formula again s.formula s.spelled s.spells)
+      ∙ overlaid_at [] lent (records 0 s.formula) 0 refl (omega (arith, all, within.room))
+      ∙ ap (λ z. z ++ drop (length (records 0 s.formula)) lent) (sym (take_all (length lent) (records 0 s.formula) (omega (arith, all, within.room))));
+}
+  where
+    all : length (records 0 s.formula) ≡ size s.formula
+    all = length_records s.formula 0
+
+    within : Within (length lent) s.formula
+    within = (limits (length lent) s.formula s.spelled).0 (sym (same_fault (length lent) s) ∙ clear)
