@@ -1,5 +1,5 @@
 -- What a ladder means.
-use Rattle.std.specs.Prelude.{ℕ, ◌+◌, ◌-◌, Bool, true, cond, List, [], ◌∷◌, set, ◌==◌, nat_lt, slice_set}
+use Rattle.std.specs.Prelude.{ℕ, ◌+◌, ◌-◌, Bool, true, cond, List, [], ◌∷◌, ◌==◌, nat_lt, slice_set}
 use Rattle.model.specs.Mdp.{Mdp, Row, no_labels, to}
 
 -- the set of labels that has only letter number k, a being number 0

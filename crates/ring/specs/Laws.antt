@@ -2,7 +2,7 @@
 use Rattle.std.specs.Prelude.{◌≡◌, ℕ, ◌+◌, ◌-◌, ◌<◌, ◌≤◌, List, [], ◌∷◌, length, ◌==◌, nat_lt, refl}
 use Rattle.std.proofs.Common.{arith}
 use Rattle.std.proofs.lemmas.Bool.{cond_both, ltb-true, ltb-false, eqb-true, eqb-false}
-use Rattle.model.specs.Mdp.{Row, Lawful, LawfulRow, Each, no_labels, to}
+use Rattle.model.specs.Mdp.{Row, Lawful, LawfulRow, Each, to}
 use Rattle.ring.specs.Rings.{ring_model, turn}
 
 module _ (n d w : ℕ) (round : (2 ≤ n) × (n ≤ 512)) (divisible : d ≤ 1000000) (weighted : (1 ≤ w) × (w < d)) where

@@ -1,5 +1,5 @@
 -- What a ring means.
-use Rattle.std.specs.Prelude.{ℕ, ◌+◌, ◌-◌, cond, List, [], ◌∷◌, ◌==◌, nat_lt}
+use Rattle.std.specs.Prelude.{ℕ, ◌+◌, ◌-◌, cond, [], ◌∷◌, ◌==◌, nat_lt}
 use Rattle.model.specs.Mdp.{Mdp, Row, no_labels, to}
 
 -- stays with d - w, goes on to the next state with w; the last state goes on to 0, which comes first there
