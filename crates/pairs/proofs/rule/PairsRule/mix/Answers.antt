@@ -7,8 +7,8 @@ use Rattle.rules.proofs.Rows.{row_target}
 use Rattle.pairs.specs.Pairs.{least_from, lesser_of}
 use Rattle.pairs.proofs.rule.PairsRule.mix.Goals as goal
 
-pub offset-bounds-values-branch : goal.offset-bounds-values-branch
-offset-bounds-values-branch c =
+pub offset_bounds-values-branch : goal.offset_bounds-values-branch
+offset_bounds-values-branch c =
     let t = row_target (length c.args.values.now) c.args._denominator c.args.row.now c.loop-branch.branch-index c.requires.lawful c.loop-branch-test.true in
     search rules
 
