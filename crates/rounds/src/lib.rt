@@ -1,0 +1,8 @@
+// Rounds: in a round each state gets the most preferred mix among its choices. One generic round serves every value rule.
+// It may use the crates model, theory and rules.
+#![tactic(auto)]
+
+pub mod fault;
+mod round;
+pub mod run;
+pub mod settle;
