@@ -1,8 +1,17 @@
-use crate::escape::expand;
+// The cases of the formula reader: each line of the input has the word `formula`, a name, how many records are lent, and a
+// formula's text, which is read; what came of it is printed. The expected output was worked out from the rules of the
+// grammar without any of this code.
+// It may use the crates model, theory, text, grammar, records and formula.
+#![tactic(auto)]
+
+mod escape;
+
+use escape::expand;
 use formula::reader::read_formula;
 use records::record::{Kind, Record};
 use std::alloc::{AllocError, Global};
 use std::io;
+use std::io::{BufRead, BufReader};
 
 // What the lent records are before a text is read.
 const BEFORE: Record = Record {
@@ -67,8 +76,8 @@ fn tried(rt: &HostRuntime, name: &str, lent: usize, text: &[u8]) -> io::Result<(
     }
 }
 
-// Tries the case of a formula: a name, how many records are lent, and an escaped text.
-pub(crate) fn read(rt: &HostRuntime, case: &str) -> io::Result<()> {
+// Tries the case that a line has: a name, how many records are lent, and an escaped text.
+fn read(rt: &HostRuntime, case: &str) -> io::Result<()> {
     if let Some((name, rest)) = case.split_once(' ') {
         if let Some((lent, escaped)) = rest.split_once(' ') {
             let text = expand(rt.alloc(), escaped)?;
@@ -78,6 +87,16 @@ pub(crate) fn read(rt: &HostRuntime, case: &str) -> io::Result<()> {
                 lent.parse::<usize>().unwrap_or(0),
                 text.as_slice(),
             )?;
+        }
+    }
+    Ok(())
+}
+
+fn main(rt: HostRuntime) -> io::Result<()> {
+    for line in BufReader::new(rt.alloc(), rt.stdin())?.lines(rt.alloc()) {
+        let line = line?;
+        if let Some(case) = line.as_str().strip_prefix("formula ") {
+            read(&rt, case)?;
         }
     }
     Ok(())
