@@ -1,6 +1,6 @@
 ghost use Rattle.std.specs.Prelude.{◌≡◌, ◌+◌, ◌^◌, ◌<◌, is_some, nat_le};
 ghost use Rattle.text.specs.Refusals.{ask};
-ghost use Rattle.theory.specs.Formulas.{extremal as theory-extremal};
+ghost use Rattle.theory.specs.Formulas.{extremal as theory_extremal};
 ghost use Rattle.formula.specs.Tokens.{meant};
 ghost use Rattle.formula.specs.Readings.{kind_unbounded, atom, joined, entire, preceded, next_path, until_path, probability, path_record};
 
@@ -46,7 +46,7 @@ fn excess(number: u64, limit: u64, place: usize) -> Option<usize>
 
 // Is the bound one of the three that an until without steps may stand under?
 fn extremal(comparison: Comparison, number: u64) -> bool
-    ensures { result ≡ is_some (theory-extremal (meant comparison) number) }
+    ensures { result ≡ is_some (theory_extremal (meant comparison) number) }
 {
     match comparison {
         Comparison::Below => false,

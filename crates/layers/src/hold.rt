@@ -11,7 +11,7 @@ use model::source::Source;
 
 // The hold layer: the source below with some states held.
 // No call can change the source below while the layer lies over it: it is taken by value into a private field that
-// no function lends or assigns, and where it is itself a reference, the borrow lasts as long as the layer.
+// no function assigns or lends for writing, and where it is itself a reference, the borrow lasts as long as the layer.
 #[derive(Drop)]
 pub struct Hold<S> {
     below: S,

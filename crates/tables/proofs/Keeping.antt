@@ -1,4 +1,4 @@
--- A content within the limits passes the test of the limits. (That what passes it is within them is `keeps-within`.)
+-- A content within the limits passes the test of the limits. (That what passes it is within them is `keeps_within`.)
 use Rattle.std.proofs.Common.{◌≡◌, ℕ, ◌+◌, true, List, [], ◌∷◌, length, refl}
 use Rattle.std.proofs.lemmas.Bool.{and_from, le-leb, lt-ltb, eq-eqb}
 use Rattle.model.specs.Mdp.{Row, total, Ascends, LawfulRow, Each}

@@ -7,9 +7,9 @@ use Rattle.model.specs.Mdp.{Row, Each, LawfulRow, Lawful, Ascends, total}
 use Rattle.text.specs.Contents.{State, Content, no_state, model_of, all_choices}
 
 -- what holds at each place holds of each element
-each_from_getD : {A : Type 0} (P : A → Type 0) (xs : List A) (d : A) → ((i : ℕ) → i < length xs → P (get_or xs i d)) → Each P xs
-each_from_getD P [] d h = tt
-each_from_getD P (x ∷ xs) d h = (h 0 (omega arith), each_from_getD P xs d (λ i l. h (suc i) (omega arith)))
+each_from_get_or : {A : Type 0} (P : A → Type 0) (xs : List A) (d : A) → ((i : ℕ) → i < length xs → P (get_or xs i d)) → Each P xs
+each_from_get_or P [] d h = tt
+each_from_get_or P (x ∷ xs) d h = (h 0 (omega arith), each_from_get_or P xs d (λ i l. h (suc i) (omega arith)))
 
 -- what holds of each element, and gives more of it, gives more of each
 pub each_map : {A : Type 0} (P Q : A → Type 0) → ((x : A) → P x → Q x) → (xs : List A) → Each P xs → Each Q xs
@@ -59,7 +59,7 @@ lawful_content c n d few each =
 -- each state of a lawful content is lawful
 pub lawful_states : (c : Content) → Lawful (model_of c) → Each (LawfulState (length c.states) c.denominator) c.states
 lawful_states c h =
-    each_from_getD (LawfulState (length c.states) c.denominator) c.states no_state (λ s l. record { labels = h.sixteen_letters s; some_choice = h.some_choice s l; rows = h.rows s })
+    each_from_get_or (LawfulState (length c.states) c.denominator) c.states no_state (λ s l. record { labels = h.sixteen_letters s; some_choice = h.some_choice s l; rows = h.rows s })
 
 -- a branch with numbers of seven digits at the most
 pub record Small (b : Branch) : Type 0 where

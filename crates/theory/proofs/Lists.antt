@@ -9,20 +9,20 @@ each_at P (x ∷ xs) zero d e h = e.0
 each_at P (x ∷ xs) (suc i) d e h = each_at P xs i d e.1 (le_of_suc-le-suc h)
 
 -- a mapped list is as long
-pub length-map : {A B : Type 0} (f : A → B) (xs : List A) → length (map f xs) ≡ length xs
-length-map f [] = refl
-length-map f (x ∷ xs) = ap suc (length-map f xs)
+pub length_map : {A B : Type 0} (f : A → B) (xs : List A) → length (map f xs) ≡ length xs
+length_map f [] = refl
+length_map f (x ∷ xs) = ap suc (length_map f xs)
 
 -- the place read in a mapped list, for any default
-pub get_d_map : {A B : Type 0} (f : A → B) (xs : List A) (i : ℕ) (a : A) (b : B) → i < length xs → get_or (map f xs) i b ≡ f (get_or xs i a)
-get_d_map f [] i a b h = absurd (not-suc-le-zero h)
-get_d_map f (x ∷ xs) zero a b h = refl
-get_d_map f (x ∷ xs) (suc i) a b h = get_d_map f xs i a b (le_of_suc-le-suc h)
+pub get_or_map : {A B : Type 0} (f : A → B) (xs : List A) (i : ℕ) (a : A) (b : B) → i < length xs → get_or (map f xs) i b ≡ f (get_or xs i a)
+get_or_map f [] i a b h = absurd (not-suc-le-zero h)
+get_or_map f (x ∷ xs) zero a b h = refl
+get_or_map f (x ∷ xs) (suc i) a b h = get_or_map f xs i a b (le_of_suc-le-suc h)
 
 -- what is not true is false
-pub not-true : (b : Bool) → (b ≡ true → ⊥) → b ≡ false
-not-true true h = absurd (h refl)
-not-true false h = refl
+pub not_true : (b : Bool) → (b ≡ true → ⊥) → b ≡ false
+not_true true h = absurd (h refl)
+not_true false h = refl
 
 -- nothing is both true and false
 pub true_not_false : {A : Type 0} (b : Bool) → b ≡ true → b ≡ false → A

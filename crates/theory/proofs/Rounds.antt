@@ -5,7 +5,7 @@ use Rattle.model.specs.declared.branch.Branch.{Branch}
 use Rattle.theory.specs.Adversaries.{AnAdversaryExists, Adversary, Allowed, chosen}
 use Rattle.theory.specs.Rules.{LawfulMix, RuleLaws, total_weight, valued}
 use Rattle.theory.specs.Rounds.{Optimum, most, most_of, mixed, value, round, rounds}
-use Rattle.theory.proofs.Lists.{each_at, length-map, get_d_map, true_not_false}
+use Rattle.theory.proofs.Lists.{each_at, length_map, get_or_map, true_not_false}
 
 -- every target of a row lies below n
 abbrev pub Within : ℕ → Row → Type 0
@@ -116,8 +116,8 @@ module _ {V : Type 0} (at_least_as_good : V → V → Bool) (mix : ℕ → List 
 
   -- a round gives what is at least as preferred as the mix of each choice
   pub round_best : (m : Mdp) (v : ℕ → V) (s c : ℕ) → c < length (m.choices s) → at_least_as_good (round at_least_as_good mix m v s) (mixed mix m v (row m s c)) ≡ true
-  round_best m v s c h = rw (get_d_map (mixed mix m v) (m.choices s) c [] (v s) h) at
-      (most_of_best (v s) (v s) (map (mixed mix m v) (m.choices s)) c (rw length-map h))
+  round_best m v s c h = rw (get_or_map (mixed mix m v) (m.choices s) c [] (v s) h) at
+      (most_of_best (v s) (v s) (map (mixed mix m v) (m.choices s)) c (rw length_map h))
 
   -- no allowed adversary's value is preferred to what the rounds give
   pub none_better : (m : Mdp) → Lawful m → (v : ℕ → V) (σ : Adversary) → Allowed m σ → (k : ℕ) (h : List ℕ) (s : ℕ) → s < m.states →
@@ -135,9 +135,9 @@ module _ {V : Type 0} (at_least_as_good : V → V → Bool) (mix : ℕ → List 
   choose m v s =
       let r = most_of_at at_least_as_good (v s) (v s) (map (mixed mix m v) (m.choices s)) in (
         r.0,
-        λ h. let q = r.1 (rw length-map h) in
-            let i : r.0 < length (m.choices s) = rw length-map at q.0 in
-            (i, sym (get_d_map (mixed mix m v) (m.choices s) r.0 [] (v s) i) ∙ q.1),
+        λ h. let q = r.1 (rw length_map h) in
+            let i : r.0 < length (m.choices s) = rw length_map at q.0 in
+            (i, sym (get_or_map (mixed mix m v) (m.choices s) r.0 [] (v s) i) ∙ q.1),
       )
 
   -- better values make a round no worse
