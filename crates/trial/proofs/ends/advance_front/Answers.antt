@@ -1,4 +1,4 @@
-use Rattle.std.proofs.Common.{drop, arith, rules}
+use Rattle.std.proofs.Common.{drop, rules}
 use Rattle.trial.proofs.Fronts.{front_rounds}
 use Rattle.trial.proofs.ends.advance_front.Goals as goal
 

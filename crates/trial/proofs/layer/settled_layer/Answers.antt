@@ -1,4 +1,4 @@
-use Rattle.std.proofs.Common.{◌≡◌, ◌+◌, Bool, List, sym, ap, ◌∙◌, subst, arith, Bor, rules}
+use Rattle.std.proofs.Common.{◌+◌, Bool, List, sym, ap, ◌∙◌, subst, arith, Bor}
 use Rattle.layers.specs.declared.hold.Hold.{Hold}
 use Rattle.theory.specs.Ends.{stops}
 use Rattle.trial.specs.Queries.{marked}

@@ -1,4 +1,4 @@
-use Rattle.std.proofs.Common.{◌<◌, arith, rules}
+use Rattle.std.proofs.Common.{◌<◌, arith}
 use Rattle.trial.specs.Keeping.{query_in, standing}
 use Rattle.trial.proofs.Queries.{stands_query, kept_query, ends_answered, ends_mean}
 use Rattle.trial.proofs.trial.Trial.ends.Goals as goal
