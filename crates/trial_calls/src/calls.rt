@@ -7,6 +7,7 @@ use trial::trial::Trial;
 use trial::verdict::Verdict;
 
 // What a query answers at a state after some rounds: its two ends, its rounds, and a verdict.
+#[derive(Drop)]
 pub struct Answer {
     pub lower: Part,
     pub upper: Part,
