@@ -1,0 +1,46 @@
+-- Flags that are set one after another: the first i are as they should be, and no later one is set.
+use Rattle.std.proofs.Common.{◌≡◌, ℕ, ◌+◌, ◌<◌, ◌≤◌, Bool, true, false, ◌≢◌, List, length, get_or, set, replicate, Ok, Err, Result, sym, ◌∙◌, arith, length-set, get_or-set_other, get_or-set_same, below_more}
+use lib.ListN.{length-replicate}
+use Rattle.model.specs.Mdp.{Mdp}
+use Rattle.layers.specs.declared.fault.HoldFault.{HoldFault}
+use Rattle.layers.specs.HoldAnswers.{Ran}
+use Rattle.layers.proofs.Flags.{none_set}
+
+-- the flags below i are those of the set, and no flag from i on is set
+pub record Partly (stop : ℕ → Bool) (i : ℕ) (flags : List Bool) : Type 0 where
+  pub long : length flags ≡ 512
+  pub below : (s : ℕ) → s < i → get_or flags s false ≡ stop s
+  pub above : (s : ℕ) → i ≤ s → get_or flags s false ≡ false
+
+-- no flag is set
+pub partly_none : (stop : ℕ → Bool) → Partly stop 0 (replicate 512 false)
+partly_none stop = record {
+  long = length-replicate 512 false;
+  below = λ s h. absurd (omega arith);
+  above = λ s h. none_set 512 s;
+}
+
+module _ (stop : ℕ → Bool) (i : ℕ) (flags : List Bool) (part : Partly stop i flags) where
+  -- the next flag is set
+  pub partly_set : i < 512 → stop i ≡ true → Partly stop (i + 1) (set flags i true)
+  partly_set h e =
+      let long = part.long in
+      let lt : i < length flags = omega arith in
+      record {
+        long = length-set flags i true ∙ long;
+        below = below_more _ _ (λ s k. let ne : s ≢ i = omega arith in rw get_or-set_other (part.below s k)) (rw get_or-set_same (sym e));
+        above = λ s k. let ne : s ≢ i = omega arith in rw get_or-set_other (part.above s (omega arith));
+      }
+
+  -- the next flag stays as it is
+  pub partly_skip : stop i ≡ false → Partly stop (i + 1) flags
+  partly_skip e = record {
+    long = part.long;
+    below = below_more _ _ part.below (part.above i (omega arith) ∙ sym e);
+    above = λ s k. part.above s (omega arith);
+  }
+
+-- holding a state that exists sets its flag
+pub held_set : (m : Mdp) (s : ℕ) (before after : List Bool) (r : Result (Unit {0}) HoldFault) → s < m.states → Ran m s before after r → after ≡ set before s true
+held_set m s before after (Ok _) h d = d.flags
+held_set m s before after (Err e) h d = let past = d.past in absurd (omega arith)

@@ -1,0 +1,19 @@
+// A trial: one until query over a source, worked out round by round, with the two ends and the verdicts read off them; and the
+// rows of verdict bytes that a formula has, worked out from the rows of its parts.
+// It may use the crates model, theory, layers, rules, rounds, records and formula.
+#![tactic(auto)]
+
+pub mod aim;
+mod begin;
+mod ends;
+mod extremal;
+pub mod fault;
+mod layer;
+mod path_rows;
+mod row_ends;
+mod rows;
+mod settled_marks;
+pub mod state;
+pub mod trial;
+mod until_rows;
+pub mod verdict;

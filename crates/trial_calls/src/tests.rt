@@ -1,0 +1,180 @@
+use crate::calls::ask;
+use records::comparison::Comparison;
+use std::test::Fail;
+use tables::tables::Tables;
+use trial::aim::Aim;
+use trial::fault::TrialFault;
+use trial::trial::Trial;
+use trial::verdict::Verdict;
+
+// State 0 tries again with 1 part out of 4 or goes to 1, or it takes 1 or 2 alike; 1 and 2 stay.
+const RETRY: &[u8] =
+    b"mdp\t3\t4\ns\t-\nc\nb\t0\t1\nb\t1\t3\nc\nb\t1\t2\nb\t2\t2\ns\ta\nc\nb\t1\t4\ns\tb\nc\nb\t2\t4\nend\n";
+
+// State 0 waits with 2 parts out of 3 and else goes to 1, which stays.
+const THIRDS: &[u8] = b"mdp\t2\t3\ns\t-\nc\nb\t0\t2\nb\t1\t1\ns\ta\nc\nb\t1\t3\nend\n";
+
+const WHOLE: u64 = 1_000_000_000;
+
+// The table of a text.
+fn table(rt: &HostRuntime, text: &[u8]) -> Result<Tables, Fail> {
+    let mut tables = Tables::new(rt.alloc())?;
+    tables.load(text)?;
+    Ok(tables)
+}
+
+// What state 0 of RETRY answers after two rounds towards state 1.
+fn retried(
+    rt: &HostRuntime,
+    left: &[u8],
+    aim: Aim,
+    comparison: Comparison,
+    bound: u64,
+) -> Result<(u32, u32, u64, Verdict), Fail> {
+    let source = table(rt, RETRY)?;
+    let answer = ask(&source, left, &[0, 1, 0], aim, (1, 1), 0, comparison, bound)?;
+    Ok((
+        answer.lower.units(),
+        answer.upper.units(),
+        answer.rounds,
+        answer.verdict,
+    ))
+}
+
+#[test]
+fn best_of_retries(rt: HostRuntime) -> Result<(), Fail> {
+    let best = 937_500_000;
+    for (comparison, bound, verdict) in [
+        (Comparison::AtMost, 937_500_000, Verdict::Yes),
+        (Comparison::AtMost, 937_499_999, Verdict::No),
+        (Comparison::Below, 937_500_001, Verdict::Yes),
+        (Comparison::Below, 937_500_000, Verdict::No),
+    ] {
+        let answer = retried(&rt, &[1, 1, 1], Aim::Best, comparison, bound)?;
+        assert_eq!(rt; answer, (best, best, 2, verdict));
+    }
+    Ok(())
+}
+
+#[test]
+fn worst_of_retries(rt: HostRuntime) -> Result<(), Fail> {
+    let worst = 500_000_000;
+    for (comparison, bound, verdict) in [
+        (Comparison::AtLeast, 500_000_000, Verdict::Yes),
+        (Comparison::AtLeast, 500_000_001, Verdict::No),
+        (Comparison::Above, 499_999_999, Verdict::Yes),
+        (Comparison::Above, 500_000_000, Verdict::No),
+    ] {
+        let answer = retried(&rt, &[1, 0, 0], Aim::Worst, comparison, bound)?;
+        assert_eq!(rt; answer, (worst, worst, 2, verdict));
+    }
+    Ok(())
+}
+
+// An until fails where neither of its sets is.
+#[test]
+fn outside_left(rt: HostRuntime) -> Result<(), Fail> {
+    let answer = retried(&rt, &[0, 1, 1], Aim::Best, Comparison::AtMost, 0)?;
+    assert_eq!(rt; answer, (0, 0, 2, Verdict::Yes));
+    Ok(())
+}
+
+#[test]
+fn thirds_are_undecided(rt: HostRuntime) -> Result<(), Fail> {
+    let source = table(&rt, THIRDS)?;
+    for (bound, verdict) in [
+        (555_555_554, Verdict::No),
+        (555_555_555, Verdict::Undecided),
+        (555_555_556, Verdict::Yes),
+    ] {
+        let answer = ask(
+            &source,
+            &[1, 1],
+            &[0, 1],
+            Aim::Best,
+            (0, 2),
+            0,
+            Comparison::AtMost,
+            bound,
+        )?;
+        assert_eq!(rt; answer.lower.units(), 555_555_555);
+        assert_eq!(rt; answer.upper.units(), 555_555_556);
+        assert_eq!(rt; answer.verdict, verdict);
+    }
+    Ok(())
+}
+
+// The number that a query on THIRDS is refused with, or 0.
+fn refusal(
+    rt: &HostRuntime,
+    left: &[u8],
+    right: &[u8],
+    count: u64,
+    state: usize,
+    comparison: Comparison,
+    bound: u64,
+) -> Result<u8, Fail> {
+    let source = table(rt, THIRDS)?;
+    match ask(
+        &source,
+        left,
+        right,
+        Aim::Best,
+        (1, count),
+        state,
+        comparison,
+        bound,
+    ) {
+        Ok(_) => Ok(0),
+        Err(fault) => Ok(fault.number()),
+    }
+}
+
+#[test]
+fn edges_of_marks(rt: HostRuntime) -> Result<(), Fail> {
+    let below = Comparison::Below;
+    assert_eq!(rt; refusal(&rt, &[1, 0], &[0, 1], 1, 0, below, 0)?, 0);
+    assert_eq!(rt; refusal(&rt, &[1], &[0, 1], 1, 0, below, 0)?, 30);
+    assert_eq!(rt; refusal(&rt, &[1, 0], &[0, 1, 0], 1, 0, below, 0)?, 30);
+    assert_eq!(rt; refusal(&rt, &[2, 0], &[0], 1, 0, below, 0)?, 30);
+    assert_eq!(rt; refusal(&rt, &[2, 0], &[0, 1], 1, 0, below, 0)?, 31);
+    assert_eq!(rt; refusal(&rt, &[1, 0], &[0, 255], 1, 0, below, 0)?, 31);
+    Ok(())
+}
+
+#[test]
+fn edges_of_queries(rt: HostRuntime) -> Result<(), Fail> {
+    let (left, right) = ([1, 1], [0, 1]);
+    for (count, state, comparison, bound, number) in [
+        (99_999, 1, Comparison::Below, WHOLE, 0),
+        (100_000, 0, Comparison::Below, 0, 33),
+        (u64::MAX, 2, Comparison::Below, 0, 33),
+        (1, 2, Comparison::Below, WHOLE + 1, 34),
+        (1, 1, Comparison::Above, WHOLE + 1, 35),
+        (1, 1, Comparison::Above, WHOLE, 36),
+        (1, 1, Comparison::AtLeast, 0, 36),
+    ] {
+        assert_eq!(rt;
+            refusal(&rt, &left, &right, count, state, comparison, bound)?,
+            number
+        );
+    }
+    Ok(())
+}
+
+#[test]
+fn no_query(rt: HostRuntime) -> Result<(), Fail> {
+    let source = table(&rt, THIRDS)?;
+    let mut trial = Trial::over(&source);
+    assert_eq!(rt; trial.advance(0), Err(TrialFault::NoQuery));
+    assert_eq!(rt;
+        trial.verdict(5, Comparison::Above, WHOLE + 1),
+        Err(TrialFault::NoQuery)
+    );
+    assert_eq!(rt;
+        trial.start(&[1], &[0, 1], Aim::Best),
+        Err(TrialFault::Lengths)
+    );
+    assert_eq!(rt; trial.advance(1), Err(TrialFault::NoQuery));
+    Ok(())
+}
