@@ -1,6 +1,6 @@
 ghost use Rattle.std.specs.Prelude.{◌≡◌};
 ghost use Rattle.formula.specs.Tokens.{meant};
-ghost use Rattle.theory.specs.Verdicts.{fits as fits-bound, harder_end as harder, easier_end as easier};
+ghost use Rattle.theory.specs.Verdicts.{fits as fits_bound, harder_end as harder, easier_end as easier};
 ghost use Rattle.trial.specs.VerdictBytes.{verdict_number, read_verdict};
 
 use records::comparison::Comparison;
@@ -29,7 +29,7 @@ impl Verdict {
 
 // Does x compare with the bound so?
 fn fits(comparison: Comparison, x: u64, bound: u64) -> bool
-    ensures { result ≡ fits-bound (meant comparison) x bound }
+    ensures { result ≡ fits_bound (meant comparison) x bound }
 {
     match comparison {
         Comparison::Below => x < bound,
