@@ -1,6 +1,6 @@
 // A trial: one until query over a source, worked out round by round, with the two ends and the verdicts read off them; and the
 // rows of verdict bytes that a formula has, worked out from the rows of its parts.
-// It may use the crates model, theory, layers, rules, rounds, records and formula.
+// It may use the crates model, theory, layers, rules, rounds, text, grammar, records and formula.
 #![tactic(auto)]
 
 pub mod aim;
