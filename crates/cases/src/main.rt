@@ -1,12 +1,11 @@
 // The cases of the model text: each line of the input has a name and a text, which is loaded into one table; what came
 // of it is printed. The expected output was worked out from the rules of the format without any of this code.
-// It may use the crates model, text and tables.
+// It may use the crates model, text, tables and escapes.
 #![tactic(auto)]
 
-mod escape;
 mod report;
 
-use escape::expand;
+use escapes::expand;
 use report::{counts, refused, writes};
 use std::io;
 use std::io::{BufRead, BufReader};
@@ -21,30 +20,18 @@ fn tried(
     text: Vec<u8>,
 ) -> io::Result<Vec<u8>> {
     let heap = rt.alloc();
-    match tables.load(text.as_slice()) {
-        Ok(()) => {
-            let found = counts(heap, tables)?;
-            let bytes = text.len();
-            let right = if writes(heap, tables, text.as_slice())? {
-                "the same"
-            } else {
-                "another text"
-            };
-            println!(rt; "{name}: {found}; writes {bytes} bytes, {right}")?;
-            Ok(text)
-        }
-        Err(fault) => {
-            let found = refused(heap, fault)?;
-            let bytes = kept.len();
-            let right = if writes(heap, tables, kept.as_slice())? {
-                "as before"
-            } else {
-                "another text"
-            };
-            println!(rt; "{name}: {found}; writes {bytes} bytes, {right}")?;
-            Ok(kept)
-        }
-    }
+    let (found, held, same) = match tables.load(text.as_slice()) {
+        Ok(()) => (counts(heap, tables)?, text, "the same"),
+        Err(fault) => (refused(heap, fault)?, kept, "as before"),
+    };
+    let bytes = held.len();
+    let right = if writes(heap, tables, held.as_slice())? {
+        same
+    } else {
+        "another text"
+    };
+    println!(rt; "{name}: {found}; writes {bytes} bytes, {right}")?;
+    Ok(held)
 }
 
 fn main(rt: HostRuntime) -> io::Result<()> {

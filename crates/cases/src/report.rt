@@ -3,19 +3,23 @@ use std::alloc::{AllocError, Global};
 use tables::tables::Tables;
 use text::fault::FileFault;
 
+// How many branches all choices of a state have.
+fn branches(source: &Tables, state: usize) -> usize {
+    (0..source.choices(state))
+        .map(|choice| source.branches(state, choice))
+        .fold(0, usize::saturating_add)
+}
+
 // What a source tells of its sizes.
 pub(crate) fn counts(heap: Global, source: &Tables) -> Result<String, AllocError> {
     let states = source.states();
     let denominator = source.denominator();
-    let mut choices: usize = 0;
-    let mut branches: usize = 0;
-    for state in 0..states {
-        let here = source.choices(state);
-        choices = choices.saturating_add(here);
-        for choice in 0..here {
-            branches = branches.saturating_add(source.branches(state, choice));
-        }
-    }
+    let choices = (0..states)
+        .map(|state| source.choices(state))
+        .fold(0, usize::saturating_add);
+    let branches = (0..states)
+        .map(|state| branches(source, state))
+        .fold(0, usize::saturating_add);
     format!(in heap;
         "ok states {states} denominator {denominator} choices {choices} branches {branches}"
     )
@@ -35,12 +39,7 @@ pub(crate) fn refused(heap: Global, fault: FileFault) -> Result<String, AllocErr
 
 // Are all bytes still those that the buffer was made with?
 fn untouched(bytes: &[u8]) -> bool {
-    for byte in bytes {
-        if *byte != 255 {
-            return false;
-        }
-    }
-    true
+    bytes.iter().all(|byte| *byte == 255)
 }
 
 // Does the table write this text into a buffer with so much room, or leave the buffer alone where it is too short?

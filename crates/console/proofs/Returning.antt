@@ -2,7 +2,7 @@
 use Rattle.std.proofs.Common.{◌≡◌, ℕ, List, map, length, None, sym, refl, ap, ◌∙◌, subst, MatchOption}
 use Rattle.text.specs.Refusals.{refusal}
 use Rattle.text.specs.Texts.{Describes}
-use Rattle.console.specs.declared.reply.Form.{Form}
+use Rattle.console.specs.declared.command.Form.{Form}
 use Rattle.printing.specs.Carets.{refusal_text}
 use Rattle.console.specs.Replies.{Answer, printed, refused, in_form, TextAnswer}
 use Rattle.std.specs.List.{range_with_len}

@@ -1,5 +1,5 @@
 -- What the program answers to the words of the command line.
-use Rattle.std.specs.Prelude.{◌≡◌, ℕ, List, ◌++◌, length, Some, None, vec_items, string_bytes, codes, Option, MatchOption}
+use Rattle.std.specs.Prelude.{◌≡◌, ℕ, List, ◌++◌, length, Some, None, Ok, Err, vec_items, string_bytes, codes, Option, Result, MatchOption}
 use Rattle.text.specs.Contents.{Content}
 use Rattle.text.specs.Texts.{text_of, Describes}
 use Rattle.text.specs.Refusals.{refusal}
@@ -7,11 +7,12 @@ use Rattle.ladder.specs.declared.fault.LadderFault.{LadderFault}
 use Rattle.ladder.specs.Ladders.{ladder_model}
 use Rattle.ladder.specs.Refusals.{ladder_fault}
 use Rattle.console.specs.declared.command.Command.{Command}
-use Rattle.console.specs.declared.command.Command.TheVariants.{Help, Show, Write, Wrong}
+use Rattle.console.specs.declared.command.Command.TheVariants.{Help, Print}
+use Rattle.console.specs.declared.command.Mistake.{Mistake}
 use Rattle.console.specs.declared.command.ModelName.{ModelName}
 use Rattle.console.specs.declared.command.ModelName.TheVariants.{File, Ladder}
-use Rattle.console.specs.declared.reply.Form.{Form}
-use Rattle.console.specs.declared.reply.Form.TheVariants.{Listing, Text}
+use Rattle.console.specs.declared.command.Form.{Form}
+use Rattle.console.specs.declared.command.Form.TheVariants.{Listing, Text}
 use Rattle.console.specs.declared.reply.Reply.{Reply}
 use Rattle.console.specs.declared.reply.Reply.TheVariants as reply
 use Rattle.printing.specs.Words.{ladder_refusal}
@@ -58,23 +59,20 @@ FileAnswer form path file a = MatchOption file (a ≡ wrong (no_file_text path))
 -- the answer of a model
 abbrev pub ModelAnswer : Form → ModelName → List ℕ → Option (List ℕ) → Answer → Type 0
 ModelAnswer form File path file a = FileAnswer form path file a
-ModelAnswer form (Ladder r d w) path file a = a ≡ ladder_answer form r d w
+ModelAnswer form (Ladder n) path file a = a ≡ ladder_answer form n.rungs n.denominator n.weight
 
 -- the path of the file that a command wants read, given the words of the command line
-abbrev pub path_wanted : Command → List (List ℕ) → Option (List ℕ)
-path_wanted Help args = None
-path_wanted (Show File) args = Some (word_at 1 args)
-path_wanted (Show (Ladder r d w)) args = None
-path_wanted (Write File) args = Some (word_at 1 args)
-path_wanted (Write (Ladder r d w)) args = None
-path_wanted (Wrong m) args = None
+abbrev pub path_wanted : Result Command Mistake → List (List ℕ) → Option (List ℕ)
+path_wanted (Ok Help) args = None
+path_wanted (Ok (Print form File)) args = Some (word_at 1 args)
+path_wanted (Ok (Print form (Ladder n))) args = None
+path_wanted (Err m) args = None
 
 -- the answer to a command, given the words of the command line and the bytes of the file that the second of them names
-abbrev pub CommandAnswer : Command → List (List ℕ) → Option (List ℕ) → Answer → Type 0
-CommandAnswer Help args file a = a ≡ printed help_text
-CommandAnswer (Show m) args file a = ModelAnswer Listing m (word_at 1 args) file a
-CommandAnswer (Write m) args file a = ModelAnswer Text m (word_at 1 args) file a
-CommandAnswer (Wrong m) args file a = a ≡ wrong (mistake_text m args)
+abbrev pub CommandAnswer : Result Command Mistake → List (List ℕ) → Option (List ℕ) → Answer → Type 0
+CommandAnswer (Ok Help) args file a = a ≡ printed help_text
+CommandAnswer (Ok (Print form m)) args file a = ModelAnswer form m (word_at 1 args) file a
+CommandAnswer (Err m) args file a = a ≡ wrong (mistake_text m args)
 
 -- the answer to the words of the command line
 abbrev pub Answers : List (List ℕ) → Option (List ℕ) → Answer → Type 0

@@ -1,20 +1,19 @@
-ghost use Rattle.std.specs.Prelude.{◌≡◌, map, IfOk, vec_items, string_bytes};
+ghost use Rattle.std.specs.Prelude.{◌≡◌, map, IfOk, string_bytes};
 ghost use Rattle.printing.specs.Layouts.{model_content};
 ghost use Rattle.console.specs.Replies.{answer_of, printed, refused, wrong, in_form, ladder_answer, TextAnswer, FileAnswer, ModelAnswer, Answers, path_wanted};
 ghost use Rattle.console.specs.Commands.{command_of};
-ghost use Rattle.printing.specs.Words.{ladder_refusal};
-ghost use Rattle.console.specs.declared.reply.Form.TheVariants.{Listing, Text};
+ghost use Rattle.console.specs.declared.command.Form.TheVariants.{Listing, Text};
 ghost use Rattle.std.specs.Option.{option_map};
 
-use crate::command::{Command, ModelName};
+use crate::command::{Command, Form, LadderNumbers, ModelName};
 use crate::help::{help_text, mistake_text, no_file_text};
 use crate::parse::{command, word_at};
-use crate::reply::{Form, Reply};
+use crate::reply::Reply;
 use ladder::ladder::Ladder;
 use model::source::Source;
 use printing::caret::refusal_text;
 use printing::listing::{model_text, show_text};
-use printing::words::ladder_refusal;
+use printing::words::refusal_line;
 use std::alloc::{AllocError, Global};
 use tables::copy::CopyFault;
 use tables::tables::Tables;
@@ -26,34 +25,26 @@ fn printed(text: String) -> Reply
     Reply::Printed(text.into_bytes())
 }
 
-// The reply that prints a source in a form.
+// The reply that prints a source in a form. The heap and the form go from function to function as they are: a struct of two
+// values that are copied would be no plainer.
 fn source_reply<S: Source>(heap: Global, form: Form, source: &S) -> Result<Reply, AllocError>
     ensures { IfOk result (λ a. answer_of a ≡ printed (in_form form (model_content (S.Source.model source.now)))) }
 {
     let text = model_text(heap, source)?;
     match form {
         Form::Text => Ok(printed(text)),
-        Form::Listing => {
-            let listing = show_text(heap, source, text.len())?;
-            Ok(printed(listing))
-        }
+        Form::Listing => Ok(printed(show_text(heap, source, text.len())?)),
     }
 }
 
 // The reply on a ladder.
-fn ladder_reply(
-    heap: Global,
-    form: Form,
-    rungs: usize,
-    denominator: u32,
-    weight: u32,
-) -> Result<Reply, AllocError>
-    ensures { IfOk result (λ a. answer_of a ≡ ladder_answer form rungs denominator weight) }
+fn ladder_reply(heap: Global, form: Form, numbers: LadderNumbers) -> Result<Reply, AllocError>
+    ensures { IfOk result (λ a. answer_of a ≡ ladder_answer form numbers.rungs numbers.denominator numbers.weight) }
 {
-    match Ladder::new(rungs, denominator, weight) {
+    match Ladder::new(numbers.rungs, numbers.denominator, numbers.weight) {
         Ok(ladder) => source_reply(heap, form, &ladder),
         Err(fault) => {
-            let mut text = ladder_refusal(heap, &fault)?;
+            let mut text = refusal_line(heap, &fault)?;
             text.push_str("\n")?;
             Ok(Reply::Refused(text))
         }
@@ -66,14 +57,8 @@ fn show_reply(heap: Global, text: &[u8]) -> Result<Reply, AllocError>
 {
     let mut tables = Tables::new(heap)?;
     match tables.load(text) {
-        Ok(()) => {
-            let reply = source_reply(heap, Form::Listing, &tables)?;
-            Ok(reply)
-        }
-        Err(fault) => {
-            let refusal = refusal_text(heap, text, &fault)?;
-            Ok(Reply::Refused(refusal))
-        }
+        Ok(()) => source_reply(heap, Form::Listing, &tables),
+        Err(fault) => Ok(Reply::Refused(refusal_text(heap, text, &fault)?)),
     }
 }
 
@@ -88,15 +73,13 @@ fn write_reply(heap: Global, text: &[u8]) -> Result<Reply, AllocError>
             out.truncate(length);
             Ok(Reply::Printed(out))
         }
-        Err(CopyFault::Load(fault)) => {
-            let refusal = refusal_text(heap, text, &fault)?;
-            Ok(Reply::Refused(refusal))
-        }
+        Err(CopyFault::Load(fault)) => Ok(Reply::Refused(refusal_text(heap, text, &fault)?)),
         Err(CopyFault::Write(_)) => unreachable(),
     }
 }
 
-// The reply on a text.
+// The reply on a text. The tables write a text in the call that loads it, and a listing is made of tables that are loaded,
+// so this is a choice between two functions.
 fn text_reply(heap: Global, form: Form, text: &[u8]) -> Result<Reply, AllocError>
     ensures { IfOk result (λ a. TextAnswer form text.now (answer_of a)) }
 {
@@ -111,13 +94,13 @@ fn file_reply(
     heap: Global,
     form: Form,
     path: &str,
-    file: &Option<Vec<u8>>,
+    file: Option<&[u8]>,
 ) -> Result<Reply, AllocError>
-    ensures { IfOk result (λ a. FileAnswer form path.now (option_map vec_items file.now) (answer_of a)) }
+    ensures { IfOk result (λ a. FileAnswer form path.now (option_map (λ x. x.now) file.entry) (answer_of a)) }
 {
     match file {
         None => Ok(Reply::Wrong(no_file_text(heap, path)?)),
-        Some(text) => text_reply(heap, form, text.as_slice()),
+        Some(text) => text_reply(heap, form, text),
     }
 }
 
@@ -127,17 +110,13 @@ fn model_reply(
     form: Form,
     model: ModelName,
     path: &str,
-    file: &Option<Vec<u8>>,
+    file: Option<&[u8]>,
 ) -> Result<Reply, AllocError>
-    ensures { IfOk result (λ a. ModelAnswer form model path.now (option_map vec_items file.now) (answer_of a)) }
+    ensures { IfOk result (λ a. ModelAnswer form model path.now (option_map (λ x. x.now) file.entry) (answer_of a)) }
 {
     match model {
         ModelName::File => file_reply(heap, form, path, file),
-        ModelName::Ladder {
-            rungs,
-            denominator,
-            weight,
-        } => ladder_reply(heap, form, rungs, denominator, weight),
+        ModelName::Ladder(numbers) => ladder_reply(heap, form, numbers),
     }
 }
 
@@ -146,20 +125,19 @@ pub fn path(args: &[String]) -> Option<&str>
     ensures { option_map (λ x. x.now) result ≡ path_wanted (command_of (map string_bytes args.now)) (map string_bytes args.now) }
 {
     match command(args) {
-        Command::Show(ModelName::File) | Command::Write(ModelName::File) => Some(word_at(args, 1)),
+        Ok(Command::Print(_, ModelName::File)) => Some(word_at(args, 1)),
         _ => None,
     }
 }
 
 // The reply to the words of the command line, after the program's name, given the bytes of the file at the path that they
 // want read, if it could be read.
-pub fn reply(heap: Global, args: &[String], file: &Option<Vec<u8>>) -> Result<Reply, AllocError>
-    ensures { IfOk result (λ a. Answers (map string_bytes args.now) (option_map vec_items file.now) (answer_of a)) }
+pub fn reply(heap: Global, args: &[String], file: Option<&[u8]>) -> Result<Reply, AllocError>
+    ensures { IfOk result (λ a. Answers (map string_bytes args.now) (option_map (λ x. x.now) file.entry) (answer_of a)) }
 {
     match command(args) {
-        Command::Help => Ok(printed(String::from_str(heap, help_text())?)),
-        Command::Show(model) => model_reply(heap, Form::Listing, model, word_at(args, 1), file),
-        Command::Write(model) => model_reply(heap, Form::Text, model, word_at(args, 1), file),
-        Command::Wrong(mistake) => Ok(Reply::Wrong(mistake_text(heap, mistake, args)?)),
+        Ok(Command::Help) => Ok(printed(String::from_str(heap, help_text())?)),
+        Ok(Command::Print(form, model)) => model_reply(heap, form, model, word_at(args, 1), file),
+        Err(mistake) => Ok(Reply::Wrong(mistake_text(heap, mistake, args)?)),
     }
 }

@@ -1,20 +1,30 @@
-// A command of the program.
+// In which form a model is printed: as a listing to read, or as model text.
+#[derive(Clone, Copy, PartialEq, Eq, Debug)]
+pub enum Form {
+    Listing,
+    Text,
+}
+
+// A command of the program: `help`, or one that prints a model, `show` as a listing and `write` as model text.
 #[derive(Clone, Copy, PartialEq, Eq, Debug)]
 pub enum Verb {
     Help,
-    Show,
-    Write,
+    Print(Form),
+}
+
+// The three numbers that name a ladder.
+#[derive(Clone, Copy, PartialEq, Eq, Debug)]
+pub struct LadderNumbers {
+    pub rungs: usize,
+    pub denominator: u32,
+    pub weight: u32,
 }
 
 // How a model is named: by the path of its file, or as a ladder by its three numbers.
 #[derive(Clone, Copy, PartialEq, Eq, Debug)]
 pub enum ModelName {
     File,
-    Ladder {
-        rungs: usize,
-        denominator: u32,
-        weight: u32,
-    },
+    Ladder(LadderNumbers),
 }
 
 // What is wrong with the words of the command line.
@@ -31,7 +41,5 @@ pub enum Mistake {
 #[derive(Clone, Copy, PartialEq, Eq, Debug)]
 pub enum Command {
     Help,
-    Show(ModelName),
-    Write(ModelName),
-    Wrong(Mistake),
+    Print(Form, ModelName),
 }

@@ -65,8 +65,7 @@ fn after_word(mistake: Mistake) -> &'static str
     ensures { result.now ≡ after_word mistake }
 {
     match mistake {
-        Mistake::NoCommand => "; kavzhubo help lists the commands\n",
-        Mistake::NoSuchCommand => "; kavzhubo help lists the commands\n",
+        Mistake::NoCommand | Mistake::NoSuchCommand => "; kavzhubo help lists the commands\n",
         Mistake::NoModel => "\n",
         Mistake::TooMany => "; kavzhubo help says what may follow it\n",
         Mistake::NoLadder =>

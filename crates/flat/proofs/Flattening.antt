@@ -70,11 +70,12 @@ module _ {X A : Type 0} (f : X → List A) where
       let whole = length-append (f x) (flat_map f xs) in
       omega arith
 
--- all choices and all branches are lists put behind one another
+-- all choices are the states' choices put behind one another
 choices_joined : (ss : List State) → all_choices ss ≡ flat_map (λ s. s.choices) ss
 choices_joined [] = refl
 choices_joined (s ∷ ss) = ap (λ rs. s.choices ++ rs) (choices_joined ss)
 
+-- all branches are the rows put behind one another
 branches_joined : (rs : List Row) → all_branches rs ≡ flat_map (λ r. r) rs
 branches_joined [] = refl
 branches_joined (r ∷ rs) = ap (λ bs. r ++ bs) (branches_joined rs)
@@ -114,10 +115,11 @@ unflat ss =
     let count = length-map ss (λ s. s.labels) in
     sym (fill_by_all (flat_state (labels_in ss) (starts_of ss) (offsets_of ss) (branches_of ss)) ss (length (labels_in ss)) no_state (sym count) (λ k h. state_held ss k (omega arith)))
 
--- there is one start more than states, and one offset more than choices
+-- there is one start more than states
 pub length_starts : (ss : List State) → length (starts_of ss) ≡ length ss + 1
 length_starts ss = length_marks (λ s. s.choices) 0 ss
 
+-- and one offset more than choices
 pub length_offsets : (ss : List State) → length (offsets_of ss) ≡ length (all_choices ss) + 1
 length_offsets ss = length_marks (λ r. r) 0 (all_choices ss)
 

@@ -1,6 +1,7 @@
--- With each line, what the arrays have and what the lines left tell stays the same.
-use Rattle.std.proofs.Common.{◌≡◌, ℕ, ◌+◌, cond, List, [], ◌∷◌, ◌++◌, length, Some, vec_items, sym, refl, ap, ◌∙◌, ap₂, append_assoc, length-append}
+-- With each line, what the arrays become with what the lines left tell stays the same.
+use Rattle.std.proofs.Common.{◌≡◌, ℕ, ◌+◌, cond, List, [], ◌∷◌, ◌++◌, length, Some, vec_items, sym, ap, ◌∙◌, ap₂, append_assoc, length-append, add-zero}
 use Rattle.std.proofs.lemmas.List.{map-append}
+use Rattle.model.specs.declared.branch.Branch.{Branch}
 use Rattle.model.specs.declared.labels.Labels.{Labels}
 use Rattle.text.specs.declared.word.Word.{Word}
 use Rattle.text.specs.declared.word.Word.TheVariants as word
@@ -10,82 +11,49 @@ use Rattle.text.specs.Words.{listed, one_of}
 use Rattle.text.specs.Questions.{word}
 use Rattle.text_laws.proofs.Nest.{branch_of}
 use Rattle.flat.specs.declared.flat.Flat.{Flat}
-use Rattle.flat.specs.declared.progress.Record.{Record}
-use Rattle.flat.specs.declared.progress.Record.TheVariants as record_of
+use Rattle.flat.specs.declared.loader.Record.{Record}
+use Rattle.flat.specs.declared.loader.Record.TheVariants as record_of
+use Rattle.flat.specs.Drafts.{Added}
 use Rattle.flat.specs.Flats.{letters}
 use Rattle.flat.specs.Readings.{Says, Recorded}
-use Rattle.flat.proofs.Told.{told_labels, told_starts, told_offsets, told_branches}
+use Rattle.flat.proofs.Told.{told_labels, told_starts, told_offsets, told_branches, same_arrays, completed}
 
--- the arrays f, with what the lines ls tell, are the arrays g, with what the lines ks tell
-pub record KeepsTelling (f : Flat) (ls : List Line) (g : Flat) (ks : List Line) : Type 0 where
-  pub labels : letters (vec_items g.labels) ++ told_labels ks ≡ letters (vec_items f.labels) ++ told_labels ls
-  pub starts : vec_items g.starts ++ told_starts (length (vec_items g.offsets)) ks ≡ vec_items f.starts ++ told_starts (length (vec_items f.offsets)) ls
-  pub offsets : vec_items g.offsets ++ told_offsets (length (vec_items g.branches)) ks ≡ vec_items f.offsets ++ told_offsets (length (vec_items f.branches)) ls
-  pub branches : vec_items g.branches ++ told_branches ks ≡ vec_items f.branches ++ told_branches ls
-
--- what a line tells in front of others, by its word
-module _ (line : Line) (ls : List Line) (v : Word) (e : word line ≡ Some v) where
-  labels_by : told_labels (line ∷ ls) ≡ cond (listed v (word.State ∷ [])) (labels_of (field 1 line) ∷ told_labels ls) (told_labels ls)
-  labels_by = ap (λ o. cond (one_of (word.State ∷ []) o) (labels_of (field 1 line) ∷ told_labels ls) (told_labels ls)) e
-
-  starts_by : (k : ℕ) → told_starts k (line ∷ ls) ≡ cond (listed v (word.State ∷ [])) (k ∷ told_starts k ls) (cond (listed v (word.Choice ∷ [])) (told_starts (k + 1) ls) (told_starts k ls))
-  starts_by k = ap (λ o. cond (one_of (word.State ∷ []) o) (k ∷ told_starts k ls) (cond (one_of (word.Choice ∷ []) o) (told_starts (k + 1) ls) (told_starts k ls))) e
-
-  offsets_by : (k : ℕ) → told_offsets k (line ∷ ls) ≡ cond (listed v (word.Choice ∷ [])) (k ∷ told_offsets k ls) (cond (listed v (word.Branch ∷ [])) (told_offsets (k + 1) ls) (told_offsets k ls))
-  offsets_by k = ap (λ o. cond (one_of (word.Choice ∷ []) o) (k ∷ told_offsets k ls) (cond (one_of (word.Branch ∷ []) o) (told_offsets (k + 1) ls) (told_offsets k ls))) e
-
-  branches_by : told_branches (line ∷ ls) ≡ cond (listed v (word.Branch ∷ [])) (branch_of line ∷ told_branches ls) (told_branches ls)
-  branches_by = ap (λ o. cond (one_of (word.Branch ∷ []) o) (branch_of line ∷ told_branches ls) (told_branches ls)) e
-
--- an element put at the end of one list is the first of what follows
-moved : {X : Type 0} (xs ys : List X) (x z : X) (rest : List X) → ys ≡ xs ++ (x ∷ []) → x ≡ z → ys ++ rest ≡ xs ++ (z ∷ rest)
-moved xs ys x z rest e f = ap (λ l. l ++ rest) e ∙ append_assoc xs (x ∷ []) rest ∙ ap (λ y. xs ++ (y ∷ rest)) f
-
--- the flags of labels with one set more
-letters_push : (xs ys : List Labels) (x : Labels) → ys ≡ xs ++ (x ∷ []) → letters ys ≡ letters xs ++ (x.letters ∷ [])
-letters_push xs ys x e = ap letters e ∙ map-append (λ l. l.letters) xs (x ∷ [])
+-- some elements between two lists stand at the end of the first or at the front of the second
+joined : {X : Type 0} (xs ys zs rest : List X) → rest ≡ ys ++ zs → (xs ++ ys) ++ zs ≡ xs ++ rest
+joined xs ys zs rest e = append_assoc xs ys zs ∙ ap (λ l. xs ++ l) (sym e)
 
 module _ (line : Line) (ls : List Line) (f g : Flat) where
-  -- a line that puts nothing into the arrays tells nothing
-  pub tells_none : vec_items g.labels ≡ vec_items f.labels → vec_items g.starts ≡ vec_items f.starts → vec_items g.offsets ≡ vec_items f.offsets → vec_items g.branches ≡ vec_items f.branches → told_labels (line ∷ ls) ≡ told_labels ls → ((k : ℕ) → told_starts k (line ∷ ls) ≡ told_starts k ls) → ((k : ℕ) → told_offsets k (line ∷ ls) ≡ told_offsets k ls) → told_branches (line ∷ ls) ≡ told_branches ls → KeepsTelling f (line ∷ ls) g ls
-  tells_none l s o b tl ts to tb = record {
-    labels = ap₂ ◌++◌ (ap letters l) (sym tl);
-    starts = ap₂ ◌++◌ s (ap (λ n. told_starts n ls) (ap length o) ∙ sym (ts _));
-    offsets = ap₂ ◌++◌ o (ap (λ n. told_offsets n ls) (ap length b) ∙ sym (to _));
-    branches = ap₂ ◌++◌ b (sym tb);
-  }
+  -- where the line tells what is put at the ends of the arrays, they become the same with what is left to tell
+  tells_added : {labels : List Labels} {starts offsets : List ℕ} {branches : List Branch} → Added labels starts offsets branches f g → told_labels (line ∷ ls) ≡ letters labels ++ told_labels ls → told_starts (length (vec_items f.offsets)) (line ∷ ls) ≡ starts ++ told_starts (length (vec_items f.offsets) + length offsets) ls → told_offsets (length (vec_items f.branches)) (line ∷ ls) ≡ offsets ++ told_offsets (length (vec_items f.branches) + length branches) ls → told_branches (line ∷ ls) ≡ branches ++ told_branches ls → completed g ls ≡ completed f (line ∷ ls)
+  tells_added {labels} {starts} {offsets} {branches} put tl ts to tb =
+      same_arrays
+      (ap (λ xs. letters xs ++ told_labels ls) put.labels ∙ ap (λ xs. xs ++ told_labels ls) (map-append (λ l. l.letters) (vec_items f.labels) labels) ∙ joined _ _ _ _ tl)
+      (ap₂ (λ xs os. xs ++ told_starts (length os) ls) put.starts put.offsets ∙ ap (λ n. (vec_items f.starts ++ starts) ++ told_starts n ls) (length-append (vec_items f.offsets) offsets) ∙ joined _ _ _ _ ts)
+      (ap₂ (λ xs bs. xs ++ told_offsets (length bs) ls) put.offsets put.branches ∙ ap (λ n. (vec_items f.offsets ++ offsets) ++ told_offsets n ls) (length-append (vec_items f.branches) branches) ∙ joined _ _ _ _ to)
+      (ap (λ xs. xs ++ told_branches ls) put.branches ∙ joined _ _ _ _ tb)
 
-  -- with a line that is put into the arrays, what they have and what is left to tell stays the same
-  pub tells_on : (r : Record) → Says line r → Recorded r f g → KeepsTelling f (line ∷ ls) g ls
-  tells_on (record_of.Header n d) s put =
-      let e = s.0 in
-      tells_none put.labels put.starts put.offsets put.branches (labels_by line ls word.Mdp e) (starts_by line ls word.Mdp e) (offsets_by line ls word.Mdp e) (branches_by line ls word.Mdp e)
-  tells_on record_of.End s put =
-      tells_none put.labels put.starts put.offsets put.branches (labels_by line ls word.End s) (starts_by line ls word.End s) (offsets_by line ls word.End s) (branches_by line ls word.End s)
-  tells_on (record_of.State labels) s put =
-      let e = s.0 in
-      let o = ap length put.offsets in
-      record {
-        labels = moved _ _ labels.letters _ _ (letters_push _ _ labels put.labels) s.1 ∙ ap (λ t. letters (vec_items f.labels) ++ t) (sym (labels_by line ls word.State e));
-        starts = ap (λ n. vec_items g.starts ++ told_starts n ls) o ∙ moved _ _ _ _ _ put.starts refl ∙ ap (λ t. vec_items f.starts ++ t) (sym (starts_by line ls word.State e _));
-        offsets = ap₂ ◌++◌ put.offsets (ap (λ n. told_offsets n ls) (ap length put.branches) ∙ sym (offsets_by line ls word.State e _));
-        branches = ap₂ ◌++◌ put.branches (sym (branches_by line ls word.State e));
-      }
-  tells_on record_of.Choice s put =
-      let o = ap length put.offsets ∙ length-append (vec_items f.offsets) (length (vec_items f.branches) ∷ []) in
-      record {
-        labels = ap₂ ◌++◌ (ap letters put.labels) (sym (labels_by line ls word.Choice s));
-        starts = ap₂ ◌++◌ put.starts (ap (λ n. told_starts n ls) o ∙ sym (starts_by line ls word.Choice s _));
-        offsets = ap (λ n. vec_items g.offsets ++ told_offsets n ls) (ap length put.branches) ∙ moved _ _ _ _ _ put.offsets refl ∙ ap (λ t. vec_items f.offsets ++ t) (sym (offsets_by line ls word.Choice s _));
-        branches = ap₂ ◌++◌ put.branches (sym (branches_by line ls word.Choice s));
-      }
+  -- the labels that the line tells in front of the others, by its word
+  labels_by : (v : Word) → word line ≡ Some v → told_labels (line ∷ ls) ≡ cond (listed v (word.State ∷ [])) (labels_of (field 1 line) ∷ told_labels ls) (told_labels ls)
+  labels_by v e = ap (λ o. cond (one_of (word.State ∷ []) o) (labels_of (field 1 line) ∷ told_labels ls) (told_labels ls)) e
+
+  -- the starts, with k choices before it
+  starts_by : (v : Word) → word line ≡ Some v → (k : ℕ) → told_starts k (line ∷ ls) ≡ cond (listed v (word.State ∷ [])) (k ∷ told_starts (k + 0) ls) (cond (listed v (word.Choice ∷ [])) (told_starts (k + 1) ls) (told_starts (k + 0) ls))
+  starts_by v e k = ap₂ (λ o n. cond (one_of (word.State ∷ []) o) (k ∷ told_starts n ls) (cond (one_of (word.Choice ∷ []) o) (told_starts (k + 1) ls) (told_starts n ls))) e (sym (add-zero k))
+
+  -- the offsets, with k branches before it
+  offsets_by : (v : Word) → word line ≡ Some v → (k : ℕ) → told_offsets k (line ∷ ls) ≡ cond (listed v (word.Choice ∷ [])) (k ∷ told_offsets (k + 0) ls) (cond (listed v (word.Branch ∷ [])) (told_offsets (k + 1) ls) (told_offsets (k + 0) ls))
+  offsets_by v e k = ap₂ (λ o n. cond (one_of (word.Choice ∷ []) o) (k ∷ told_offsets n ls) (cond (one_of (word.Branch ∷ []) o) (told_offsets (k + 1) ls) (told_offsets n ls))) e (sym (add-zero k))
+
+  -- the branches
+  branches_by : (v : Word) → word line ≡ Some v → told_branches (line ∷ ls) ≡ cond (listed v (word.Branch ∷ [])) (branch_of line ∷ told_branches ls) (told_branches ls)
+  branches_by v e = ap (λ o. cond (one_of (word.Branch ∷ []) o) (branch_of line ∷ told_branches ls) (told_branches ls)) e
+
+  -- with a line that is put into the arrays, they become the same
+  pub tells_on : (said : Record) → Says line said → Recorded said f g → completed g ls ≡ completed f (line ∷ ls)
+  tells_on (record_of.Header new) s put = tells_added put (labels_by word.Mdp s.0) (starts_by word.Mdp s.0 _) (offsets_by word.Mdp s.0 _) (branches_by word.Mdp s.0)
+  tells_on (record_of.State labels) s put = tells_added put (labels_by word.State s.0 ∙ ap (λ l. l ∷ told_labels ls) (sym s.1)) (starts_by word.State s.0 _) (offsets_by word.State s.0 _) (branches_by word.State s.0)
+  tells_on record_of.Choice s put = tells_added put (labels_by word.Choice s) (starts_by word.Choice s _) (offsets_by word.Choice s _) (branches_by word.Choice s)
   tells_on (record_of.Branch branch) s put =
-      let e = s.0 in
-      let n = ap length put.branches ∙ length-append (vec_items f.branches) (branch ∷ []) in
-      let b : branch ≡ branch_of line = ap₂ (λ t w. record { target = t; weight = w }) s.1 s.2 in
-      record {
-        labels = ap₂ ◌++◌ (ap letters put.labels) (sym (labels_by line ls word.Branch e));
-        starts = ap₂ ◌++◌ put.starts (ap (λ k. told_starts k ls) (ap length put.offsets) ∙ sym (starts_by line ls word.Branch e _));
-        offsets = ap₂ ◌++◌ put.offsets (ap (λ k. told_offsets k ls) n ∙ sym (offsets_by line ls word.Branch e _));
-        branches = moved _ _ branch _ _ put.branches b ∙ ap (λ t. vec_items f.branches ++ t) (sym (branches_by line ls word.Branch e));
-      }
+      let told : branch_of line ≡ branch = ap₂ (λ t w. record { target = t; weight = w }) (sym s.1) (sym s.2) in
+      tells_added put (labels_by word.Branch s.0) (starts_by word.Branch s.0 _) (offsets_by word.Branch s.0 _) (branches_by word.Branch s.0 ∙ ap (λ b. b ∷ told_branches ls) told)
+  tells_on record_of.End s put = tells_added put (labels_by word.End s) (starts_by word.End s _) (offsets_by word.End s _) (branches_by word.End s)

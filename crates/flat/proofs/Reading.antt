@@ -1,30 +1,34 @@
 -- The lines of a text are read one after the other.
-use Rattle.std.proofs.Common.{◌≡◌, ℕ, ◌+◌, ◌-◌, ◌<◌, ◌≤◌, Bool, true, eqb, List, [], ◌∷◌, ◌++◌, length, get_or, take, drop, Some, None, vec_items, Option, sym, refl, ap, ◌∙◌, subst, ap₂, ⊎_elim, append-nil, arith, length-drop}
-use Rattle.std.proofs.lemmas.List.{get_or-drop, drop_all, take_all}
-use Rattle.std.proofs.lemmas.Bool.{cases_lt, le-leb, eq-eqb}
+use Rattle.std.proofs.Common.{◌≡◌, ℕ, ◌+◌, ◌-◌, ◌<◌, ◌≤◌, Bool, true, false, cond, eqb, List, [], ◌∷◌, ◌++◌, map, length, get_or, drop, Some, None, vec_items, Option, sym, refl, ap, ◌∙◌, subst, ap₂, zero-add, Bor, arith}
+use Rattle.std.proofs.lemmas.List.{map-append, at_drop_more, drop_all, get_or-map, length-map}
+use Rattle.std.proofs.lemmas.List.FromFn.{get_or-enumerate_from, length-enumerate_from}
+use Rattle.std.proofs.lemmas.Iterator.{YieldsList}
+use Rattle.std.proofs.lemmas.Iterator.Consumers.{YieldsList-turn, YieldsList-end}
+use Rattle.std.proofs.lemmas.Bool.{le-leb, eq-eqb}
+use Rattle.std.specs.Iterator.{Yields}
+use Rattle.std.specs.List.{slice_split, onto_first, enumerate_from}
 use Rattle.model.specs.Mdp.{total}
 use Rattle.text.specs.declared.word.Word.TheVariants as word
 use Rattle.text.specs.declared.fault.FileFault.{FileFault}
 use Rattle.text.specs.declared.fault.FileFault.TheVariants.{Long, Unended, NoEnd}
-use Rattle.text.specs.Cuts.{Line, FirstPiece, fields, each_fields, lines}
+use Rattle.text.specs.Cuts.{Line, cut, fields, each_fields, lines}
 use Rattle.text.specs.Contents.{Content}
 use Rattle.text.specs.Texts.{Describes, content_lines}
 use Rattle.text.specs.Words.{one_of}
 use Rattle.text.specs.Questions.{number, header, last_word, word_fits}
 use Rattle.text.specs.Refusals.{ask, or_next, numbered, line_fault, line_refusal, lines_refusal, refusal}
-use Rattle.text.proofs.Cutting.{cut_more_at}
 use Rattle.text_laws.proofs.Nest.{first_line, content_of}
 use Rattle.text_laws.proofs.Sound.{sound, describes}
 use Rattle.text_laws.proofs.Complete.{accepted}
 use Rattle.text_laws.proofs.SoundAsks.{some_none, or_next_none, ask_next_none, numbered_none}
 use Rattle.flat.specs.declared.flat.Flat.{Flat}
-use Rattle.flat.specs.declared.progress.Progress.{Progress}
-use Rattle.flat.specs.Drafts.{Emptied, Closed}
+use Rattle.flat.specs.declared.loader.Loader.{Loader}
+use Rattle.flat.specs.Drafts.{Added, Closed}
 use Rattle.flat.specs.Flats.{letters, content}
 use Rattle.flat.specs.Reads.{Holds}
-use Rattle.flat.specs.Readings.{Sane, Follows, Stepped}
-use Rattle.flat.proofs.Told.{told_labels, told_starts, told_offsets, told_branches}
-use Rattle.flat.proofs.Following.{follows_more}
+use Rattle.flat.specs.Readings.{goes_above, Begun, Follows, Stepped}
+use Rattle.flat.proofs.Told.{told_labels, told_starts, told_offsets, told_branches, same_arrays, arrays, told, completed}
+use Rattle.flat.proofs.Following.{row_where, follows_more}
 use Rattle.flat.proofs.Growing.{tells_on}
 use Rattle.flat.proofs.ToldFlat.{loaded}
 
@@ -43,20 +47,46 @@ refusal_lines text short ended =
 pub refused_none : (text : List ℕ) (fault : FileFault) → refusal text ≡ Some fault → (c : Content) → Describes text c → ⊥
 refused_none text fault e c d = some_none fault (sym e ∙ accepted text c d)
 
--- where the text is ended, so is the line that begins at a place within it
-line_ended : (text : List ℕ) (at r : ℕ) → get_or text (length text - 1) 0 ≡ 10 → at < length text → FirstPiece (drop at text) 10 r → r < length (drop at text)
-line_ended text at r ended l p =
-    ⊎_elim (λ h. h)
-    (λ h.
-    let k = length text - 1 - at in
-    let long = length-drop at text in
-    let place : at + k ≡ length text - 1 = omega arith in
-    absurd (p.before k (omega arith) (get_or-drop at text k 0 ∙ ap (λ i. get_or text i 0) place ∙ ended)))
-    (cases_lt r (length (drop at text)))
+-- the pieces of a text that an LF ends are the parts of what stands before that LF
+cut_parts : (body : List ℕ) → cut 10 [] (body ++ (10 ∷ [])) ≡ slice_split (λ b. eqb b 10) body
+cut_parts [] = refl
+cut_parts (x ∷ xs) = ap (λ ps. cond (eqb x 10) ([] ∷ ps) (onto_first x ps)) (cut_parts xs)
 
--- the line that begins there, and the lines after it
-line_cut : (text : List ℕ) (at r : ℕ) → FirstPiece (drop at text) 10 r → r < length (drop at text) → lines (drop at text) ≡ fields (take r (drop at text)) ∷ lines (drop (at + r + 1) text)
-line_cut text at r p l = ap each_fields (cut_more_at 10 [] text at r p l)
+-- the lines of pieces
+each_fields-map : (ps : List (List ℕ)) → each_fields ps ≡ map fields ps
+each_fields-map [] = refl
+each_fields-map (p ∷ ps) = ap (λ ls. fields p ∷ ls) (each_fields-map ps)
+
+-- the lines of a text that an LF ends
+pub lines_parts : (body : List ℕ) → lines (body ++ (10 ∷ [])) ≡ map fields (slice_split (λ b. eqb b 10) body)
+lines_parts body = ap each_fields (cut_parts body) ∙ each_fields-map (slice_split (λ b. eqb b 10) body)
+
+-- after n lines of all, this is the next, counted from 0
+pub record Next (all : List Line) (n i : ℕ) (line : Line) : Type 0 where
+  pub number : i ≡ n
+  pub within : n < length all
+  pub here : line ≡ get_or all n line
+
+-- a loop over the parts of what stands before the last LF, counted from 0, which has had the parts xs
+module _ {S : Type 0} {steps : S → Option (ℕ × Bor (List ℕ)) → S → Type 0} {s : S} (body : List ℕ) (each : YieldsList steps (λ p. (p.0, p.1.now)) s (enumerate_from 0 (slice_split (λ b. eqb b 10) body))) (xs : List (ℕ × Bor (List ℕ))) (t : S) (had : Yields steps s xs t) (u : S) (got : Option (ℕ × Bor (List ℕ))) (step : steps t got u) where
+  -- the part that it gets is the next line
+  pub next_line : (i : ℕ) (part : Bor (List ℕ)) → got ≡ Some (i, part) → Next (lines (body ++ (10 ∷ []))) (length xs) i (fields part.now)
+  next_line i part e =
+      let parts = slice_split (λ b. eqb b 10) body in
+      let turn = YieldsList-turn each xs t had got u (i, part) e step in
+      let few : length xs < length parts = omega (arith, turn.0, length-enumerate_from 0 parts) in
+      let same = turn.1 ∙ get_or-enumerate_from 0 parts (length xs) (i, part.now) few in
+      record {
+        number = ap (λ p. p.0) same ∙ zero-add (length xs);
+        within = rw (lines_parts body, length-map parts fields) few;
+        here = ap (λ p. fields p.1) same ∙ sym (get_or-map fields parts (length xs) part.now (fields part.now) few) ∙ ap (λ ls. get_or ls (length xs) (fields part.now)) (sym (lines_parts body));
+      }
+
+  -- where it gets none, it has had all lines
+  pub no_line : got ≡ None → length xs ≡ length (lines (body ++ (10 ∷ [])))
+  no_line e =
+      let parts = slice_split (λ b. eqb b 10) body in
+      (YieldsList-end each xs t had got u e step).1 ∙ length-enumerate_from 0 parts ∙ sym (length-map parts fields) ∙ ap length (sym (lines_parts body))
 
 -- the header, if it is read, and else the first line that is left
 abbrev first_of : List Line → List Line → Line
@@ -68,110 +98,80 @@ first_on : (before : List Line) (line : Line) (ls : List Line) → first_of (lin
 first_on [] line ls = refl
 first_on (l ∷ before) line ls = refl
 
--- the arrays have all that the lines of the text tell, but for what the lines left tell
-pub record Tells (f : Flat) (ls all : List Line) : Type 0 where
-  pub labels : letters (vec_items f.labels) ++ told_labels ls ≡ told_labels all
-  pub starts : vec_items f.starts ++ told_starts (length (vec_items f.offsets)) ls ≡ told_starts 0 all
-  pub offsets : vec_items f.offsets ++ told_offsets (length (vec_items f.branches)) ls ≡ told_offsets 0 all
-  pub branches : vec_items f.branches ++ told_branches ls ≡ told_branches all
-
--- the text is read up to the place `at`, where line number n begins
-pub record ReadTo (text : List ℕ) (at n : ℕ) (p : Progress) (f : Flat) : Type 0 where
-  pub sane : Sane p f
-  pub within : at ≤ length text
-  pub few : n ≤ at + 1
+-- n of all the lines are read
+pub record ReadTo (all : List Line) (n : ℕ) (r : Loader) : Type 0 where
   pub before : List Line
-  pub follows : Follows p f before
-  pub left : lines_refusal before n (lines (drop at text)) ≡ lines_refusal [] 1 (lines text)
-  pub first : first_of before (lines (drop at text)) ≡ first_line (lines text)
-  pub tells : Tells f (lines (drop at text)) (lines text)
+  pub follows : Follows r before
+  pub left : lines_refusal before (n + 1) (drop n all) ≡ lines_refusal [] 1 all
+  pub first : first_of before (drop n all) ≡ first_line all
+  pub tells : completed r.flat.now (drop n all) ≡ told all
 
 -- before the first line
-pub read_none : (text : List ℕ) (f : Flat) → Emptied f → ReadTo text 0 1 (record { last = None; states = 0; denominator = 0; first = 0; target = 0 }) f
-read_none text f e =
-    let l = ap length e.labels in
-    let s = ap length e.starts in
-    let o = ap length e.offsets in
-    let b = ap length e.branches in
+pub read_none : (all : List Line) (r : Loader) → Begun r → ReadTo all 0 r
+read_none all r b =
+    let e = b.arrays in
+    let os = ap length e.offsets in
+    let bs = ap length e.branches in
+    let row = row_where r None false b.last refl in
     record {
-      sane = omega (arith, l, s, o, b);
-      within = omega arith;
-      few = omega arith;
       before = [];
-      follows = record { last = refl; begun = λ _. refl; states = refl; denominator = refl; row = ap (λ bs. total bs) e.branches; target = λ t. refl; state_count = l; choice_count = o; branch_count = b };
+      follows = record { last = b.last; begun = λ _. refl; states = b.states; denominator = b.denominator; row = ap total row; target = λ t. ap (λ x. goes_above x t) row; state_count = ap length e.labels; choice_count = os; branch_count = bs };
       left = refl;
       first = refl;
-      tells = record {
-        labels = ap (λ ls. letters ls ++ told_labels (lines text)) e.labels;
-        starts = ap₂ (λ xs k. xs ++ told_starts k (lines text)) e.starts o;
-        offsets = ap₂ (λ xs k. xs ++ told_offsets k (lines text)) e.offsets b;
-        branches = ap (λ bs. bs ++ told_branches (lines text)) e.branches;
-      };
+      tells = same_arrays (ap (λ xs. letters xs ++ told_labels all) e.labels) (ap₂ (λ xs ys. xs ++ told_starts (length ys) all) e.starts e.offsets) (ap₂ (λ xs ys. xs ++ told_offsets (length ys) all) e.offsets e.branches) (ap (λ xs. xs ++ told_branches all) e.branches);
     }
 
 -- the word of a line that is not refused may stand there
 word_passed : (before : List Line) (n : ℕ) (line : Line) → line_refusal before n line ≡ None → word_fits before line ≡ true
 word_passed before n line e = (ask_next_none (word_fits before line) _ _ (numbered_none n (line_fault before line) (or_next_none (numbered n (line_fault before line)) _ e).0)).0
 
--- the rest of the text, as the code cuts it off, is the rest of the text
-rest_slice : (text : List ℕ) (at r : ℕ) → FirstPiece (take (length text - at) (drop at text)) 10 r → FirstPiece (drop at text) 10 r
-rest_slice text at r piece = subst (λ z. FirstPiece z 10 r) (take_all (length text - at) (drop at text) (omega (arith, length-drop at text))) piece
+-- where n lines are read, and this is the next
+module _ (all : List Line) (n i : ℕ) (r : Loader) (k : ReadTo all n r) (line : Line) (next : Next all n i line) where
+  -- it is the first of those left
+  here_cut : drop n all ≡ line ∷ drop (n + 1) all
+  here_cut = at_drop_more (λ ls. ls) all n line next.within ∙ ap (λ x. x ∷ drop (n + 1) all) (sym next.here)
 
--- one line, as the code cuts it off
-abbrev slice : List ℕ → ℕ → ℕ → Line
-slice text at r = fields (take (at + r - at) (drop at text))
-
--- where line number n begins at `at` and has r bytes
-module _ (text : List ℕ) (ended : get_or text (length text - 1) 0 ≡ 10) (at n r : ℕ) (p : Progress) (f : Flat) (k : ReadTo text at n p f) (l : at < length text) (piece : FirstPiece (take (length text - at) (drop at text)) 10 r) where
-  line_long : r < length (drop at text)
-  line_long = line_ended text at r ended l (rest_slice text at r piece)
-
-  here_cut : lines (drop at text) ≡ slice text at r ∷ lines (drop (at + r + 1) text)
-  here_cut =
-      let long : r ≡ at + r - at = omega arith in
-      line_cut text at r (rest_slice text at r piece) line_long ∙ ap (λ z. fields (take z (drop at text)) ∷ lines (drop (at + r + 1) text)) long
+  -- what refuses the lines left is what refuses the line, or else the lines after it
+  refusal_here : lines_refusal [] 1 all ≡ or_next (line_refusal k.before (i + 1) line) (lines_refusal (line ∷ k.before) (n + 1 + 1) (drop (n + 1) all))
+  refusal_here =
+      sym k.left ∙ ap (lines_refusal k.before (n + 1)) here_cut
+      ∙ ap (λ j. or_next (line_refusal k.before (j + 1) line) (lines_refusal (line ∷ k.before) (n + 1 + 1) (drop (n + 1) all))) (sym next.number)
 
   -- a refused line refuses the text
-  pub read_fault : (fault : FileFault) → line_refusal k.before n (slice text at r) ≡ Some fault → lines_refusal [] 1 (lines text) ≡ Some fault
-  read_fault fault e =
-      sym k.left ∙ ap (lines_refusal k.before n) here_cut
-      ∙ ap (λ o. or_next o (lines_refusal (slice text at r ∷ k.before) (n + 1) (lines (drop (at + r + 1) text)))) e
+  pub read_fault : (fault : FileFault) → line_refusal k.before (i + 1) line ≡ Some fault → lines_refusal [] 1 all ≡ Some fault
+  read_fault fault e = refusal_here ∙ ap (λ o. or_next o (lines_refusal (line ∷ k.before) (n + 1 + 1) (drop (n + 1) all))) e
 
   -- a line that is not refused is read
-  pub read_more : (q : Progress) (g : Flat) → Sane q g → (line_refusal k.before n (slice text at r) ≡ None) × Stepped p f (slice text at r) q g → ReadTo text (at + r + 1) (n + 1) q g
-  read_more q g sane (e, s) =
-      let line = slice text at r in
-      let ls = lines (drop (at + r + 1) text) in
-      let on = tells_on line ls f g s.said s.says s.put in
+  pub read_more : (q : Loader) → (line_refusal k.before (i + 1) line ≡ None) × Stepped line r q → ReadTo all (n + 1) q
+  read_more q (e, s) =
+      let ls = drop (n + 1) all in
+      let f = r.flat.now in
       record {
-        sane = sane;
-        within = omega (arith, length-drop at text, line_long);
-        few = omega (arith, k.few);
         before = line ∷ k.before;
-        follows = subst (λ z. Follows z g (line ∷ k.before)) (sym s.next) (follows_more line k.before p f g s.said k.sane k.follows (word_passed k.before n line e) s.says s.put);
-        left = sym (ap (λ o. or_next o (lines_refusal (line ∷ k.before) (n + 1) ls)) e) ∙ sym (ap (lines_refusal k.before n) here_cut) ∙ k.left;
+        follows = follows_more line k.before r q k.follows (word_passed k.before (i + 1) line e) s.said s.says s.put;
+        left = sym (ap (λ o. or_next o (lines_refusal (line ∷ k.before) (n + 1 + 1) ls)) e) ∙ sym refusal_here;
         first = first_on k.before line ls ∙ ap (first_of k.before) (sym here_cut) ∙ k.first;
-        tells = record {
-          labels = on.labels ∙ ap (λ z. letters (vec_items f.labels) ++ told_labels z) (sym here_cut) ∙ k.tells.labels;
-          starts = on.starts ∙ ap (λ z. vec_items f.starts ++ told_starts (length (vec_items f.offsets)) z) (sym here_cut) ∙ k.tells.starts;
-          offsets = on.offsets ∙ ap (λ z. vec_items f.offsets ++ told_offsets (length (vec_items f.branches)) z) (sym here_cut) ∙ k.tells.offsets;
-          branches = on.branches ∙ ap (λ z. vec_items f.branches ++ told_branches z) (sym here_cut) ∙ k.tells.branches;
-        };
+        tells = tells_on line ls f q.flat.now s.said s.says s.put.arrays ∙ ap (completed f) (sym here_cut) ∙ k.tells;
       }
 
--- where all lines are read
-module _ (text : List ℕ) (at n : ℕ) (p : Progress) (f : Flat) (k : ReadTo text at n p f) (all : length text ≤ at) where
-  none_left : lines (drop at text) ≡ []
-  none_left = ap lines (drop_all at text all)
+-- arrays that end with the numbers of choices and of branches are what those before become with no lines left
+closed_arrays : (f g : Flat) → Added [] (length (vec_items f.offsets) ∷ []) (length (vec_items f.branches) ∷ []) [] f g → arrays g ≡ completed f []
+closed_arrays f g put = same_arrays (ap letters put.labels ∙ map-append (λ l. l.letters) (vec_items f.labels) []) put.starts put.offsets put.branches
+
+-- where all lines of a text are read
+module _ (text : List ℕ) (n : ℕ) (r : Loader) (k : ReadTo (lines text) n r) (all : n ≡ length (lines text)) where
+  -- no line is left
+  none_left : drop n (lines text) ≡ []
+  none_left = drop_all n (lines text) (omega (arith, all))
 
   -- whether the last line is an end
-  pub read_end : (answer : Bool) → one_of (word.End ∷ []) p.last ≡ answer → lines_refusal [] 1 (lines text) ≡ ask answer NoEnd
+  pub read_end : (answer : Bool) → one_of (word.End ∷ []) r.last ≡ answer → lines_refusal [] 1 (lines text) ≡ ask answer NoEnd
   read_end answer e =
-      sym k.left ∙ ap (lines_refusal k.before n) none_left
+      sym k.left ∙ ap (lines_refusal k.before (n + 1)) none_left
       ∙ ap (λ o. ask (one_of (word.End ∷ []) o) NoEnd) (sym k.follows.last) ∙ ap (λ b. ask b NoEnd) e
 
   -- the header is the first line
-  header_read : one_of (word.End ∷ []) p.last ≡ true → header k.before ≡ first_line (lines text)
+  header_read : one_of (word.End ∷ []) r.last ≡ true → header k.before ≡ first_line (lines text)
   header_read e = read k.before (ap (one_of (word.End ∷ [])) (sym k.follows.last) ∙ e) ∙ ap (first_of k.before) (sym none_left) ∙ k.first
     where
       read : (before : List Line) → one_of (word.End ∷ []) (last_word before) ≡ true → header before ≡ first_of before []
@@ -179,18 +179,16 @@ module _ (text : List ℕ) (at n : ℕ) (p : Progress) (f : Flat) (k : ReadTo te
       read (l ∷ before) h = refl
 
   -- the arrays, closed, hold the content that the text describes
-  pub read_all : length text ≤ 65536 → get_or text (length text - 1) 0 ≡ 10 → one_of (word.End ∷ []) p.last ≡ true → (g : Flat) → Closed p.denominator f g → Holds text g
+  pub read_all : length text ≤ 65536 → get_or text (length text - 1) 0 ≡ 10 → one_of (word.End ∷ []) r.last ≡ true → (g : Flat) → Closed r.header.denominator r.flat.now g → Holds text g
   read_all short ended e g closed =
       let ls = lines text in
+      let f = r.flat.now in
       let passed : lines_refusal [] 1 ls ≡ None = read_end true e in
       let d = describes text (refusal_lines text short ended ∙ passed) in
       let c = content_of ls in
       let same : ls ≡ content_lines c = (sound ls passed).0 in
-      let filled = loaded c d.within (vec_items g.labels) (vec_items g.starts) (vec_items g.offsets) (vec_items g.branches)
-      (ap letters closed.labels ∙ sym (append-nil (letters (vec_items f.labels))) ∙ ap (λ z. letters (vec_items f.labels) ++ told_labels z) (sym none_left) ∙ k.tells.labels ∙ ap told_labels same)
-      (closed.starts ∙ ap (λ z. vec_items f.starts ++ told_starts (length (vec_items f.offsets)) z) (sym none_left) ∙ k.tells.starts ∙ ap (told_starts 0) same)
-      (closed.offsets ∙ ap (λ z. vec_items f.offsets ++ told_offsets (length (vec_items f.branches)) z) (sym none_left) ∙ k.tells.offsets ∙ ap (told_offsets 0) same)
-      (closed.branches ∙ sym (append-nil (vec_items f.branches)) ∙ ap (λ z. vec_items f.branches ++ told_branches z) (sym none_left) ∙ k.tells.branches ∙ ap told_branches same) in
+      let whole : arrays g ≡ told (content_lines c) = closed_arrays f g closed.ended ∙ ap (completed f) (sym none_left) ∙ k.tells ∙ ap told same in
+      let filled = loaded c d.within g whole in
       let units : g.denominator ≡ c.denominator = closed.denominator ∙ k.follows.denominator ∙ ap (number 2) (header_read e) in
-      let whole : c ≡ content g = ap₂ (λ u ss. record { denominator = u; states = ss }) (sym units) (sym filled.states) in
-      record { describes = subst (Describes text) whole d; long = filled.long; rising = filled.rising; spanned = filled.spanned }
+      let held : c ≡ content g = ap₂ (λ u ss. record { denominator = u; states = ss }) (sym units) (sym filled.states) in
+      record { describes = subst (Describes text) held d; long = filled.long; rising = filled.rising; spanned = filled.spanned }

@@ -1,8 +1,6 @@
 -- The lines of a content tell its flat arrays.
-use Rattle.std.proofs.Common.{◌≡◌, ℕ, ◌+◌, ◌^◌, ◌<◌, List, [], ◌∷◌, ◌++◌, map, length, sym, refl, ap, ◌∙◌, ap₂, arith}
+use Rattle.std.proofs.Common.{◌≡◌, ℕ, ◌+◌, ◌^◌, ◌<◌, List, [], ◌∷◌, ◌++◌, map, length, vec_items, sym, refl, ap, ◌∙◌, ap₂, arith}
 use Rattle.std.proofs.lemmas.List.{append_assoc, length-map}
-use Rattle.model.specs.declared.branch.Branch.{Branch}
-use Rattle.model.specs.declared.labels.Labels.{Labels}
 use Rattle.model.specs.Mdp.{Row, Each}
 use Rattle.text.specs.Cuts.{Line}
 use Rattle.text.specs.Contents.{State, Content, all_choices, all_branches}
@@ -10,8 +8,9 @@ use Rattle.text.specs.Texts.{row_lines, choices_lines, states_lines, content_lin
 use Rattle.text_laws.proofs.CompleteFields.{labels_read}
 use Rattle.text_laws.proofs.CompleteTold.{branch_told}
 use Rattle.text_laws.proofs.States.{LawfulState, lawful_states, Small, small_rows, each_map}
-use Rattle.flat.specs.Flats.{letters, flat_states, StartsOk, OffsetsOk}
-use Rattle.flat.proofs.Told.{told_labels, told_starts, told_offsets, told_branches}
+use Rattle.flat.specs.declared.flat.Flat.{Flat}
+use Rattle.flat.specs.Flats.{content, StartsOk, OffsetsOk}
+use Rattle.flat.proofs.Told.{told_labels, told_starts, told_offsets, told_branches, arrays, told}
 use Rattle.flat.proofs.Flattening.{sums, labels_in, starts_of, offsets_of, branches_of, unflat, starts_ok, offsets_ok, length_starts}
 
 -- the line that ends all
@@ -115,20 +114,20 @@ module _ (c : Content) where
   branches_told w = states_branches c.states (tellable c w)
 
 -- the arrays hold the states of the content, and their numbers are in order
-pub record Filled (c : Content) (labels : List Labels) (starts offsets : List ℕ) (branches : List Branch) : Type 0 where
-  pub states : flat_states (letters labels) starts offsets branches ≡ c.states
-  pub long : length starts ≡ length labels + 1
-  pub rising : StartsOk (length labels) (length offsets) starts
-  pub spanned : OffsetsOk (length branches) offsets
+pub record Filled (c : Content) (f : Flat) : Type 0 where
+  pub states : (content f).states ≡ c.states
+  pub long : length (vec_items f.starts) ≡ length (vec_items f.labels) + 1
+  pub rising : StartsOk (length (vec_items f.labels)) (length (vec_items f.offsets)) (vec_items f.starts)
+  pub spanned : OffsetsOk (length (vec_items f.branches)) (vec_items f.offsets)
 
 -- arrays that are what the lines of a content within the limits tell hold its states
-pub loaded : (c : Content) → Within c → (labels : List Labels) (starts offsets : List ℕ) (branches : List Branch) → letters labels ≡ told_labels (content_lines c) → starts ≡ told_starts 0 (content_lines c) → offsets ≡ told_offsets 0 (content_lines c) → branches ≡ told_branches (content_lines c) → Filled c labels starts offsets branches
-loaded c w labels starts offsets branches ls ss os bs =
-    let flags = ls ∙ labels_told c w in
-    let firsts = ss ∙ starts_told c in
-    let fronts = os ∙ offsets_told c in
-    let all = bs ∙ branches_told c w in
-    let count : length labels ≡ length c.states = sym (length-map labels (λ l. l.letters)) ∙ ap length flags ∙ length-map c.states (λ s. s.labels) in
+pub loaded : (c : Content) → Within c → (f : Flat) → arrays f ≡ told (content_lines c) → Filled c f
+loaded c w f e =
+    let flags = ap (λ a. a.labels) e ∙ labels_told c w in
+    let firsts = ap (λ a. a.starts) e ∙ starts_told c in
+    let fronts = ap (λ a. a.offsets) e ∙ offsets_told c in
+    let all = ap (λ a. a.branches) e ∙ branches_told c w in
+    let count : length (vec_items f.labels) ≡ length c.states = sym (length-map (vec_items f.labels) (λ l. l.letters)) ∙ ap length flags ∙ length-map c.states (λ s. s.labels) in
     record {
       states = rw (flags, firsts, fronts, all) (unflat c.states);
       long = rw (firsts, count) (length_starts c.states);

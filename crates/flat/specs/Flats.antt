@@ -12,6 +12,10 @@ use Rattle.flat.specs.declared.flat.Flat.{Flat}
 abbrev pub piece : List ℕ → List Branch → ℕ → Row
 piece offsets branches k = take (slice_index offsets (k + 1) - slice_index offsets k) (drop (slice_index offsets k) branches)
 
+-- where the row of the last choice begins; 0 where there is no choice
+abbrev pub row_start : List ℕ → ℕ
+row_start offsets = slice_index offsets (length offsets - 1)
+
 -- the flags of each set of labels
 abbrev pub letters : List Labels → List (List Bool)
 letters labels = map (λ l. l.letters) labels

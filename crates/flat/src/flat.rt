@@ -6,6 +6,7 @@ use model::labels::Labels;
 // A model in flat arrays: the labels of each state, the number of its first choice, for each choice the number of
 // its first branch, and the branches. `starts` and `offsets` end with the number of choices and of branches. There
 // is room for 512 states, 2,048 choices and 4,096 branches, so nothing put in within these limits wants memory.
+// Vectors of vectors would want memory for each state and choice that a text has: these arrays have it beforehand.
 #[derive(Drop)]
 pub struct Flat {
     pub denominator: u32,

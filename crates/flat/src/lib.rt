@@ -5,7 +5,7 @@
 mod draft;
 pub mod flat;
 mod line;
+mod loader;
 pub mod make;
-mod progress;
 pub mod read;
 mod step;

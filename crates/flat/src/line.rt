@@ -1,14 +1,13 @@
-ghost use Rattle.std.specs.Prelude.{◌≡◌, ◌≤◌, true, ◌&&◌, List, [], ◌∷◌, length, IfOk, if◌then◌else◌, nat_lt};
+ghost use Rattle.std.specs.Prelude.{◌≡◌, ◌≤◌, ◌&&◌, List, length, IfOk, nat_lt};
 ghost use Rattle.model.specs.Mdp.{total};
 ghost use Rattle.text.specs.Cuts.{Line, fields};
 ghost use Rattle.text.specs.Fields.{between};
-ghost use Rattle.text.specs.Words.{one_of};
 ghost use Rattle.text.specs.Questions.{last_word, closed};
 ghost use Rattle.text.specs.declared.word.Word.TheVariants as kind;
-ghost use Rattle.flat.specs.Readings.{Sane, Follows, Admits, WordRead, NumbersRead, LineRead, RestRead};
+ghost use Rattle.flat.specs.declared.loader.Loader.{Loader};
+ghost use Rattle.flat.specs.Readings.{row_of, goes_above, Follows, Admits, WordRead, NumbersRead, LineRead, RestRead};
 
-use crate::flat::Flat;
-use crate::progress::{Progress, Record};
+use crate::loader::{Header, Loader, Record};
 use model::branch::Branch;
 use text::cut::{field, field_count};
 use text::fault::LineFault;
@@ -21,34 +20,21 @@ fn row_total(row: &[Branch]) -> u64
     requires { length row.now ≤ 4096 }
     ensures { result ≡ total row.now }
 {
-    let mut sum: u64 = 0;
-    for branch in row {
-        sum += branch.weight as u64;
-    }
-    sum
+    row.iter().map(|branch| branch.weight as u64).sum()
 }
 
-// Is there no row open, or one that sums to the denominator?
-fn row_closes(progress: Progress, draft: &Flat) -> bool
-    requires { Sane progress draft.now }
-    ensures { (before : List Line) → Follows progress draft.now before → result ≡ closed before }
+// Is the target above the last of a row?
+fn is_above(row: &[Branch], target: usize) -> bool
+    ensures { result ≡ goes_above row.now target }
 {
-    match progress.last {
-        Some(Word::Branch) => {
-            let first = progress.first;
-            row_total(&draft.branches.as_slice()[first..]) == progress.denominator as u64
-        }
-        _ => true,
-    }
+    row.last().is_none_or(|branch| branch.target < target)
 }
 
 // The word of a line, if it may stand here (3) and the line has its fields (4).
 fn next_word(last: Option<Word>, line: &[u8]) -> Result<Word, LineFault>
     ensures { (before : List Line) → last ≡ last_word before → WordRead before (fields line.now) result }
 {
-    let Some(word) = Word::read(field(line, 0)) else {
-        return Err(LineFault::Word);
-    };
+    let word = Word::try_from(field(line, 0))?;
     if !word.may_follow(last) {
         return Err(LineFault::Word);
     }
@@ -56,33 +42,6 @@ fn next_word(last: Option<Word>, line: &[u8]) -> Result<Word, LineFault>
         return Err(LineFault::Fields);
     }
     Ok(word)
-}
-
-// A choice: the row before it sums up (9), and there are few enough (11).
-fn read_choice(progress: Progress, draft: &Flat, line: &[u8]) -> Result<Record, LineFault>
-    requires { Sane progress draft.now }
-    ensures read { RestRead kind.Choice progress draft.now (fields line.now) result }
-    ensures admitted { IfOk result (Admits progress draft.now) }
-{
-    if !row_closes(progress, draft) {
-        return Err(LineFault::Sum);
-    }
-    if draft.offsets.len() >= 2048 {
-        return Err(LineFault::Choices);
-    }
-    Ok(Record::Choice)
-}
-
-// The end: the row before it sums up (9).
-fn read_end(progress: Progress, draft: &Flat, line: &[u8]) -> Result<Record, LineFault>
-    requires { Sane progress draft.now }
-    ensures read { RestRead kind.End progress draft.now (fields line.now) result }
-    ensures admitted { IfOk result (Admits progress draft.now) }
-{
-    if !row_closes(progress, draft) {
-        return Err(LineFault::Sum);
-    }
-    Ok(Record::End)
 }
 
 // The numbers of fields 1 and 2, if they are lawful (5).
@@ -102,83 +61,120 @@ fn header_in_range(states: u32, denominator: u32) -> bool
 }
 
 // A header: its numbers are lawful (5) and in range (6).
-fn read_header(progress: Progress, draft: &Flat, line: &[u8]) -> Result<Record, LineFault>
-    ensures read { RestRead kind.Mdp progress draft.now (fields line.now) result }
-    ensures admitted { IfOk result (Admits progress draft.now) }
+fn read_header(line: &[u8]) -> Result<Record, LineFault>
+    ensures read { (before : List Line) → RestRead kind.Mdp before (fields line.now) result }
+    ensures admitted { (loader : Loader) → IfOk result (Admits loader) }
 {
     let (states, denominator) = two_numbers(line)?;
     if !header_in_range(states, denominator) {
         return Err(LineFault::Range);
     }
-    Ok(Record::Header {
+    Ok(Record::Header(Header {
         states: states as usize,
         denominator,
-    })
+    }))
 }
 
-// Is the target a state, and the weight 1 to the denominator?
-fn branch_in_range(progress: Progress, target: usize, weight: u32) -> bool
-    ensures { result ≡ (nat_lt target progress.states && between 1 progress.denominator weight) }
-{
-    target < progress.states && 1 <= weight && weight <= progress.denominator
-}
+impl Loader<'_> {
+    // The row that is open, so far; empty where none is.
+    fn open_row(&self) -> &[Branch]
+        ensures { result.now ≡ row_of self.now }
+    {
+        match self.last {
+            Some(Word::Choice | Word::Branch) => {
+                let first = self.flat.offsets.last().copied().unwrap_or(0);
+                &self.flat.branches.as_slice()[first..]
+            }
+            _ => &[],
+        }
+    }
 
-// Is the target above that of the last branch, if its row is open?
-fn above_last(progress: Progress, target: usize) -> bool
-    ensures { result ≡ (if one_of (kind.Branch ∷ []) progress.last then nat_lt progress.target target else true) }
-{
-    match progress.last {
-        Some(Word::Branch) => progress.target < target,
-        _ => true,
+    // Is the last line no branch, or does the row that it ends sum to the denominator?
+    fn row_closes(&self) -> bool
+        ensures { (before : List Line) → Follows self.now before → result ≡ closed before }
+    {
+        self.last != Some(Word::Branch)
+            || row_total(self.open_row()) == self.header.denominator as u64
     }
-}
 
-// A branch: its numbers are lawful (5) and in range (6), its target is above the last (8), and there are few enough (12).
-fn read_branch(progress: Progress, draft: &Flat, line: &[u8]) -> Result<Record, LineFault>
-    ensures read { RestRead kind.Branch progress draft.now (fields line.now) result }
-    ensures admitted { IfOk result (Admits progress draft.now) }
-{
-    let (number, weight) = two_numbers(line)?;
-    let target = number as usize;
-    if !branch_in_range(progress, target, weight) {
-        return Err(LineFault::Range);
+    // A state: its labels are lawful (7), the row before it sums up (9), and the header has states left (10).
+    fn read_state(&self, line: &[u8]) -> Result<Record, LineFault>
+        ensures read { (before : List Line) → Follows self.now before → RestRead kind.State before (fields line.now) result }
+        ensures admitted { IfOk result (Admits self.now) }
+    {
+        let labels = labels(field(line, 1), 1)?;
+        if !self.row_closes() {
+            return Err(LineFault::Sum);
+        }
+        if self.flat.labels.len() >= self.header.states {
+            return Err(LineFault::States);
+        }
+        Ok(Record::State(labels))
     }
-    if !above_last(progress, target) {
-        return Err(LineFault::Order);
-    }
-    if draft.branches.len() >= 4096 {
-        return Err(LineFault::Branches);
-    }
-    Ok(Record::Branch(Branch { target, weight }))
-}
 
-// A state: its labels are lawful (7), the row before it sums up (9), and the header has states left (10).
-fn read_state(progress: Progress, draft: &Flat, line: &[u8]) -> Result<Record, LineFault>
-    requires { Sane progress draft.now }
-    ensures read { RestRead kind.State progress draft.now (fields line.now) result }
-    ensures admitted { IfOk result (Admits progress draft.now) }
-{
-    let labels = labels(field(line, 1), 1)?;
-    if !row_closes(progress, draft) {
-        return Err(LineFault::Sum);
+    // A choice: the row before it sums up (9), and there are few enough (11).
+    fn read_choice(&self) -> Result<Record, LineFault>
+        ensures read { (before : List Line) (line : Line) → Follows self.now before → RestRead kind.Choice before line result }
+        ensures admitted { IfOk result (Admits self.now) }
+    {
+        if !self.row_closes() {
+            return Err(LineFault::Sum);
+        }
+        if self.flat.offsets.len() >= 2048 {
+            return Err(LineFault::Choices);
+        }
+        Ok(Record::Choice)
     }
-    if draft.labels.len() >= progress.states {
-        return Err(LineFault::States);
-    }
-    Ok(Record::State(labels))
-}
 
-// What a line says, if no question refuses it (3 to 12).
-pub(crate) fn read_line(progress: Progress, draft: &Flat, line: &[u8]) -> Result<Record, LineFault>
-    requires { Sane progress draft.now }
-    ensures read { (before : List Line) → Follows progress draft.now before → LineRead before (fields line.now) result }
-    ensures admitted { IfOk result (Admits progress draft.now) }
-{
-    match next_word(progress.last, line)? {
-        Word::Mdp => read_header(progress, draft, line),
-        Word::State => read_state(progress, draft, line),
-        Word::Choice => read_choice(progress, draft, line),
-        Word::Branch => read_branch(progress, draft, line),
-        Word::End => read_end(progress, draft, line),
+    // Is the target a state, and the weight 1 to the denominator?
+    fn branch_in_range(&self, target: usize, weight: u32) -> bool
+        ensures { result ≡ (nat_lt target self.now.header.states && between 1 self.now.header.denominator weight) }
+    {
+        target < self.header.states && (1..=self.header.denominator).contains(&weight)
+    }
+
+    // A branch: its numbers are lawful (5) and in range (6), its target is above the last of its row (8), and there
+    // are few enough (12).
+    fn read_branch(&self, line: &[u8]) -> Result<Record, LineFault>
+        ensures read { (before : List Line) → Follows self.now before → RestRead kind.Branch before (fields line.now) result }
+        ensures admitted { IfOk result (Admits self.now) }
+    {
+        let (number, weight) = two_numbers(line)?;
+        let target = number as usize;
+        if !self.branch_in_range(target, weight) {
+            return Err(LineFault::Range);
+        }
+        if !is_above(self.open_row(), target) {
+            return Err(LineFault::Order);
+        }
+        if self.flat.branches.len() >= 4096 {
+            return Err(LineFault::Branches);
+        }
+        Ok(Record::Branch(Branch { target, weight }))
+    }
+
+    // The end: the row before it sums up (9).
+    fn read_end(&self) -> Result<Record, LineFault>
+        ensures read { (before : List Line) (line : Line) → Follows self.now before → RestRead kind.End before line result }
+        ensures admitted { IfOk result (Admits self.now) }
+    {
+        if !self.row_closes() {
+            return Err(LineFault::Sum);
+        }
+        Ok(Record::End)
+    }
+
+    // What a line says, if no question refuses it (3 to 12).
+    pub(crate) fn read_line(&self, line: &[u8]) -> Result<Record, LineFault>
+        ensures read { (before : List Line) → Follows self.now before → LineRead before (fields line.now) result }
+        ensures admitted { IfOk result (Admits self.now) }
+    {
+        match next_word(self.last, line)? {
+            Word::Mdp => read_header(line),
+            Word::State => self.read_state(line),
+            Word::Choice => self.read_choice(),
+            Word::Branch => self.read_branch(line),
+            Word::End => self.read_end(),
+        }
     }
 }

@@ -12,13 +12,7 @@ impl Flat {
     pub fn new(heap: Global) -> Result<Flat, AllocError>
         ensures { IfOk result FreshFlat }
     {
-        let labels = reserved(
-            heap,
-            512,
-            &[Labels {
-                letters: [false; 16],
-            }],
-        )?;
+        let labels = reserved(heap, 512, &[Labels::default()])?;
         let starts = reserved(heap, 513, &[0usize, 1])?;
         let offsets = reserved(heap, 2049, &[0usize, 1])?;
         let branches = reserved(

@@ -1,66 +1,25 @@
-ghost use Rattle.std.specs.Prelude.{◌≡◌, List, length, IfOk};
+ghost use Rattle.std.specs.Prelude.{◌≡◌, List, Ok, Err};
 ghost use Rattle.text.specs.Cuts.{Line, fields};
-ghost use Rattle.flat.specs.Readings.{Sane, Follows, Admits, Recorded, further, numbered_result, all_there, StepRead};
+ghost use Rattle.flat.specs.Drafts.{Emptied};
+ghost use Rattle.flat.specs.Readings.{Follows, Admits, word_of_record, numbered_result, all_there, Put, Begun, StepRead};
 
 use crate::flat::Flat;
-use crate::line::read_line;
-use crate::progress::{Progress, Record};
+use crate::loader::{Header, Loader, Record};
 use text::fault::{FileFault, LineFault, Numbered};
 use text::word::Word;
 
-// Puts what a line says into the draft, and says how far the text is read then.
-fn put_record(progress: Progress, draft: &mut Flat, record: Record) -> Progress
-    requires sane { Sane progress draft.old }
-    requires admitted { Admits progress draft.old «record» }
-    ensures next { result ≡ further progress (length draft.old.branches.items) «record» }
-    ensures arrays { Recorded «record» draft.old draft.new }
-{
-    let first = draft.branches.len();
-    match record {
-        Record::Header {
-            states,
-            denominator,
-        } => {
-            Progress {
-                last: Some(Word::Mdp),
-                states,
-                denominator,
-                first,
-                target: 0,
-            }
+impl Record {
+    // The word of a line that says this.
+    fn word(self) -> Word
+        ensures { result ≡ word_of_record self }
+    {
+        match self {
+            Record::Header(_) => Word::Mdp,
+            Record::State(_) => Word::State,
+            Record::Choice => Word::Choice,
+            Record::Branch(_) => Word::Branch,
+            Record::End => Word::End,
         }
-        Record::State(labels) => {
-            draft.add_state(labels);
-            Progress {
-                last: Some(Word::State),
-                first,
-                target: 0,
-                ..progress
-            }
-        }
-        Record::Choice => {
-            draft.add_choice();
-            Progress {
-                last: Some(Word::Choice),
-                first,
-                target: 0,
-                ..progress
-            }
-        }
-        Record::Branch(branch) => {
-            draft.add_branch(branch);
-            Progress {
-                last: Some(Word::Branch),
-                target: branch.target,
-                ..progress
-            }
-        }
-        Record::End => Progress {
-            last: Some(Word::End),
-            first,
-            target: 0,
-            ..progress
-        },
     }
 }
 
@@ -68,36 +27,72 @@ fn put_record(progress: Progress, draft: &mut Flat, record: Record) -> Progress
 fn with_number(res: Result<Record, LineFault>, line: usize) -> Result<Record, Numbered>
     ensures { result ≡ numbered_result line res }
 {
-    match res {
-        Ok(record) => Ok(record),
-        Err(fault) => Err(Numbered { line, fault }),
-    }
+    res.map_err(|fault| Numbered { line, fault })
 }
 
-// Are all states there, if this is the end (13)?
-fn states_there(progress: Progress, draft: &Flat, record: Record) -> bool
-    ensures { result ≡ all_there progress draft.now «record» }
-{
-    match record {
-        Record::End => draft.labels.len() == progress.states,
-        _ => true,
+impl<'a> Loader<'a> {
+    // A loader that has read nothing, of empty arrays.
+    pub(crate) fn new(flat: &'a mut Flat) -> Loader<'a>
+        requires { Emptied flat.old }
+        ensures same_reference { result.flat.ghost_name ≡ flat.entry.ghost_name }
+        ensures begun { Begun result }
+    {
+        Loader {
+            flat,
+            last: None,
+            header: Header {
+                states: 0,
+                denominator: 0,
+            },
+        }
     }
-}
 
-// Reads line number `number` into the draft: how far the text is read then, or the fault of the text.
-pub(crate) fn read_step(
-    progress: Progress,
-    draft: &mut Flat,
-    line: &[u8],
-    number: usize,
-) -> Result<Progress, FileFault>
-    requires { Sane progress draft.old }
-    ensures read { (before : List Line) → Follows progress draft.old before → StepRead before number (fields line.now) progress draft.old draft.new result }
-    ensures sane { IfOk result (λ q. Sane q draft.new) }
-{
-    let record = with_number(read_line(progress, draft, line), number)?;
-    if !states_there(progress, draft, record) {
-        return Err(FileFault::Missing);
+    // Puts what a line says into the arrays: the first choice of a state is the next, and so is the first branch of a
+    // choice.
+    fn put(&mut self, record: Record)
+        requires { Admits self.old «record» }
+        ensures same_reference { self.new.flat.ghost_name ≡ self.old.flat.ghost_name }
+        ensures put { Put «record» self.old self.new }
+    {
+        // The arrays need to be within the limits again only when this loan of them ends.
+        let flat = &mut *self.flat;
+        match record {
+            Record::Header(header) => self.header = header,
+            Record::State(labels) => {
+                let choices = flat.offsets.len();
+                flat.starts.push_reserved(choices);
+                flat.labels.push_reserved(labels);
+            }
+            Record::Choice => {
+                let branches = flat.branches.len();
+                flat.offsets.push_reserved(branches);
+            }
+            Record::Branch(branch) => flat.branches.push_reserved(branch),
+            Record::End => {}
+        }
+        self.last = Some(record.word());
     }
-    Ok(put_record(progress, draft, record))
+
+    // Are all states there, if this is the end (13)?
+    fn states_there(&self, record: Record) -> bool
+        ensures { result ≡ all_there self.now «record» }
+    {
+        match record {
+            Record::End => self.flat.labels.len() == self.header.states,
+            _ => true,
+        }
+    }
+
+    // Reads line number `number` into the arrays, or finds the fault of the text.
+    pub(crate) fn read_step(&mut self, line: &[u8], number: usize) -> Result<(), FileFault>
+        ensures same_reference { self.new.flat.ghost_name ≡ self.old.flat.ghost_name }
+        ensures read { (before : List Line) → Follows self.old before → StepRead before number (fields line.now) self.old self.new result }
+    {
+        let record = with_number(self.read_line(line), number)?;
+        if !self.states_there(record) {
+            return Err(FileFault::Missing);
+        }
+        self.put(record);
+        Ok(())
+    }
 }

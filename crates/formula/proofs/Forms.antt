@@ -1,25 +1,23 @@
 -- What each form of a formula adds to what is known of its parts.
-use Rattle.std.proofs.Common.{◌≡◌, ℕ, ◌+◌, ◌-◌, ◌<◌, ◌≤◌, max, leb, List, [], ◌∷◌, ◌++◌, length, get_or, set, Some, None, Ok, Err, Option, Result, sym, refl, ap, ◌∙◌, subst, ⊎_elim, append_assoc, add-zero, arith, length-append}
-use Rattle.std.specs.Option.{option_or}
-use Rattle.text.specs.Refusals.{ask}
-use Rattle.theory.specs.Mixes.{whole}
+use Rattle.std.proofs.Common.{◌≡◌, ℕ, ◌+◌, ◌-◌, ◌<◌, ◌≤◌, List, [], ◌∷◌, ◌++◌, length, get_or, set, Some, None, Ok, Err, Option, Result, sym, refl, ap, ◌∙◌, subst, append_assoc, add-zero, arith, length-append}
 use Rattle.theory.specs.Formulas.{Comparison, Formula, PathFormula, truth, label, negation, conjunction, next, until_within, until, at_most, most_steps}
 use Rattle.theory.specs.Formulas as theory
 use Rattle.grammar.specs.Words.{Stands, Read}
 use Rattle.grammar.specs.Spelling.{sign, print, print_path, print_bound}
 use Rattle.grammar.specs.Languages.{Just, StateWord, PathWord}
 use Rattle.grammar.proofs.Chains.{byte_stands, stands_then}
-use Rattle.grammar.proofs.Formulas.{state_read, path_read, atom_refused, last_byte_refused}
+use Rattle.grammar.proofs.Formulas.{state_read, path_read, atom_refused}
 use Rattle.records.specs.declared.comparison.Comparison.{Comparison as Code}
 use Rattle.records.specs.declared.comparison.Comparison.TheVariants.{Below, AtMost, Above, AtLeast}
+use Rattle.formula.specs.declared.token.Number.{Number}
 use Rattle.formula.specs.declared.token.Bound.{Bound}
 use Rattle.records.specs.declared.record.Kind.TheVariants.{Truth, Label, Negation, Conjunction}
 use Rattle.records.specs.declared.record.Record.{Record}
 use Rattle.formula.specs.declared.reading.Reading.{Reading}
 use Rattle.formula.specs.declared.reading.Path.{Path}
-use Rattle.formula.specs.Tokens.{meant, BoundRead, StepsRead, JustReads, TrueReads}
+use Rattle.formula.specs.Tokens.{meant, BoundRead, StepsRead}
 use Rattle.formula.specs.Records.{size, path_size, coded, line, own, path_kind, path_first, path_second, path_steps, records, path_records}
-use Rattle.formula.specs.Questions.{first_large, path_first_large, unbounded, first_unbounded, path_first_unbounded, depth}
+use Rattle.formula.specs.Questions.{unbounded}
 use Rattle.formula.specs.Readings.{kind_unbounded, atom, joined, entire, next_path, until_path, probability, path_record, overlaid, StateRead, PathRead, StateReads, AtomReads}
 
 -- what is written over what was written
@@ -49,10 +47,6 @@ mutual
   length_path_records (until_within n f g) k = omega (arith, length_records f k, length_records g (k + size f), length-append (records k f) (records (k + size f) g))
   length_path_records (until f g) k = omega (arith, length_records f k, length_records g (k + size f), length-append (records k f) (records (k + size f) g))
 
--- the first of two places depends on the two alone
-or_same : (a a' b b' : Option ℕ) → a ≡ a' → b ≡ b' → option_or a b ≡ option_or a' b'
-or_same a a' b b' p q = ap (λ z. option_or z b) p ∙ ap (λ z. option_or a' z) q
-
 -- a comparison comes back from its meaning
 coded_meant : (c : Code) → coded (meant c) ≡ c
 coded_meant Below = refl
@@ -69,11 +63,6 @@ by_kind (until f g) c b at = refl
 -- one byte that was read
 byte : {c : ℕ} {w t : List ℕ} {a e : ℕ} → Read (Just c) w t a e → Stands (c ∷ []) t a e
 byte {c} {w} {t} {a} {e} r = subst (λ (z : List ℕ). Stands z t a e) r.lawful r.stands
-
--- `true`, where its first three bytes stand
-pub true_reads : {t : List ℕ} {a b c d : ℕ} → Read (Just 116) (116 ∷ []) t a b → Read (Just 114) (114 ∷ []) t b c → Read (Just 117) (117 ∷ []) t c d → (r : Result ℕ ℕ) → JustReads 101 t d r → TrueReads t a r
-true_reads p q s (Ok e) h = stands_then p.stands (stands_then q.stands (stands_then s.stands h.stands))
-true_reads {t} {a} p q s (Err e) h = last_byte_refused t a p q s h
 
 module _ {t : List ℕ} {a k : ℕ} {o o₁ : List Record} (small : k ≤ a) where
   -- `true`
@@ -159,9 +148,9 @@ read_conjunction {t} {u} {v} {a} {k} {m} {e} {o} {o₁} {o₂} {o₃} {l} {r} in
       spelled = (s.spelled, s'.spelled);
       stands = stands_then (byte_stands 40 t a inside is) (stands_then s.stands (stands_then (byte j) (stands_then s'.stands (byte j'))));
       counts = omega (arith, total);
-      deep = ap (λ z. max z r.depth + 1) s.deep ∙ ap (λ z. max (depth f) z + 1) s'.deep;
-      large = or_same _ _ _ _ s.large (s'.large ∙ ap (λ z. first_large z g) here);
-      unbounded = or_same _ _ _ _ s.unbounded (s'.unbounded ∙ ap (λ z. first_unbounded z g) here);
+      deep = rw (s.deep, s'.deep) refl;
+      large = rw (s.large, s'.large, here) refl;
+      unbounded = rw (s.unbounded, s'.unbounded, here) refl;
       written =
           overlaid_then o o₂ o₃ k r.count (records k f ++ records (k + size f) g) (last ∷ []) (pair s s') counted
           (w ∙ ap (λ z. set o₂ r.count z) i ∙ ap (λ z. set o₂ r.count (line Conjunction (z - 1) (r.count - 1) None 0 0)) s.counts ∙ ap (λ z. set o₂ r.count (line Conjunction (own k f) (z - 1) None 0 0)) total)
@@ -179,7 +168,7 @@ pub read_probability : {t u v : List ℕ} {a k m e : ℕ} {o o₁ o₂ : List Re
 read_probability {t} {u} {v} {a} {k} {m} {e} {o} {o₁} {o₂} {b} {q} inside is d j s j' {x} i w =
     let path = s.path in
     let c = meant b.comparison in
-    let n = b.number in
+    let n = b.number.value in
     let p : m ≡ b.end + 1 = (byte j).place in
     let p' : e ≡ q.parts.end + 1 = (byte j').place in
     let here : m ≡ a + 1 + length (print_bound c n) + 1 = omega (arith, p, d.read.stands.place) in
@@ -189,8 +178,8 @@ read_probability {t} {u} {v} {a} {k} {m} {e} {o} {o₁} {o₂} {b} {q} inside is
       stands = stands_then (byte_stands 80 t a inside is) (stands_then d.read.stands (stands_then (byte j) (stands_then s.stands (byte j'))));
       counts = omega (arith, s.counts);
       deep = ap (λ z. z + 1) s.deep;
-      large = or_same _ _ _ _ (ap (λ z. ask (leb n whole) z) d.place) (s.large ∙ ap (λ z. path_first_large z path) here);
-      unbounded = or_same _ _ _ _ (ap (λ z. kind_unbounded z c n a) s.kind ∙ by_kind path c n a) (s.unbounded ∙ ap (λ z. path_first_unbounded z path) here);
+      large = rw (d.place, s.large, here) refl;
+      unbounded = rw (s.kind, by_kind path c n a, s.unbounded, here) refl;
       written =
           overlaid_then o o₁ o₂ k q.parts.count (path_records k path) _ s.written (s.counts ∙ ap (λ z. k + z) (sym (length_path_records path k)))
           (w ∙ ap (λ z. set o₁ q.parts.count z) (i ∙ same));
@@ -201,7 +190,7 @@ read_probability {t} {u} {v} {a} {k} {m} {e} {o} {o₁} {o₂} {b} {q} inside is
       within = j'.stands.within;
     }
   where
-    same : path_record q b ≡ line (path_kind s.path) (path_first k s.path) (path_second k s.path) (Some (coded (meant b.comparison))) b.number (path_steps s.path)
+    same : path_record q b ≡ line (path_kind s.path) (path_first k s.path) (path_second k s.path) (Some (coded (meant b.comparison))) b.number.value (path_steps s.path)
     same =
         let e₁ = s.kind in
         let e₂ = s.first in
@@ -239,8 +228,8 @@ module _ {t : List ℕ} {a k m : ℕ} {o o₁ o₂ : List Record} {l r : Reading
   until_total s' = omega (arith, s.counts, s'.counts)
 
   -- the until itself
-  pub read_until : (limit : Option ℕ) (place e : ℕ) → StepsRead t m (record { limit = limit; place = place; end = e }) → StateRead t e l.count o₁ o₂ r → PathRead t a k o o₂ (until_path l limit place r)
-  read_until None place e d s' =
+  pub read_until : (limit : Option Number) (e : ℕ) → StepsRead t m (record { limit = limit; end = e }) → StateRead t e l.count o₁ o₂ r → PathRead t a k o o₂ (until_path l limit r)
+  read_until None e d s' =
       let f = s.formula in
       let g = s'.formula in
       let p : m ≡ l.end + 1 = (byte j).place in
@@ -250,9 +239,9 @@ module _ {t : List ℕ} {a k m : ℕ} {o o₁ o₂ : List Record} {l r : Reading
         spelled = (s.spelled, s'.spelled);
         stands = stands_then s.stands (stands_then (byte j) (stands_then d.read.stands s'.stands));
         counts = until_total s';
-        deep = ap (λ z. max z r.depth) s.deep ∙ ap (λ z. max (depth f) z) s'.deep;
-        large = or_same _ _ _ _ s.large (s'.large ∙ ap (λ z. first_large z g) here);
-        unbounded = or_same _ _ _ _ s.unbounded (s'.unbounded ∙ ap (λ z. first_unbounded z g) here);
+        deep = rw (s.deep, s'.deep) refl;
+        large = rw (s.large, s'.large, here) refl;
+        unbounded = rw (s.unbounded, s'.unbounded, here) refl;
         kind = refl;
         first = ap (λ z. z - 1) s.counts;
         second = omega (arith, until_total s');
@@ -264,21 +253,21 @@ module _ {t : List ℕ} {a k m : ℕ} {o o₁ o₂ : List Record} {l r : Reading
         ahead = omega (arith, s.ahead, s'.ahead, p, d.ahead);
         within = s'.within;
       }
-  read_until (Some n) place e d s' =
+  read_until (Some steps) e d s' =
       let f = s.formula in
       let g = s'.formula in
       let p : m ≡ l.end + 1 = (byte j).place in
-      let digits : place ≡ m + length (sign at_most) = ⊎_elim (λ h. absurd (let z : ◌≡◌ {A = ℕ} 0 1 = cc in omega arith)) (λ h. h) d.place in
-      let number : place ≡ a + length (print f) + 1 + length (sign at_most) = omega (arith, digits, p, s.stands.place) in
+      let n = steps.value in
+      let number : steps.place ≡ a + length (print f) + 1 + length (sign at_most) = omega (arith, d.place, p, s.stands.place) in
       let here : e ≡ a + length (print f) + 1 + length (print_bound at_most n) = omega (arith, p, s.stands.place, d.read.stands.place) in
       record {
         path = until_within n f g;
         spelled = (d.few, s.spelled, s'.spelled);
         stands = stands_then s.stands (stands_then (byte j) (stands_then d.read.stands s'.stands));
         counts = until_total s';
-        deep = ap (λ z. max z r.depth) s.deep ∙ ap (λ z. max (depth f) z) s'.deep;
-        large = or_same _ _ _ _ s.large (or_same _ _ _ _ (ap (λ z. ask (leb n most_steps) z) number) (s'.large ∙ ap (λ z. first_large z g) here));
-        unbounded = or_same _ _ _ _ s.unbounded (s'.unbounded ∙ ap (λ z. first_unbounded z g) here);
+        deep = rw (s.deep, s'.deep) refl;
+        large = rw (s.large, number, s'.large, here) refl;
+        unbounded = rw (s.unbounded, s'.unbounded, here) refl;
         kind = refl;
         first = ap (λ z. z - 1) s.counts;
         second = omega (arith, until_total s');

@@ -1,5 +1,5 @@
 -- Just the formulas within the limits have no fault.
-use Rattle.std.proofs.Common.{◌≡◌, ℕ, ◌+◌, Bool, true, false, ◌&&◌, leb, [], ◌∷◌, length, is_some, Some, None, Option, refl, ap, ◌∙◌, arith}
+use Rattle.std.proofs.Common.{◌≡◌, ℕ, ◌+◌, Bool, true, false, ◌&&◌, leb, [], ◌∷◌, length, is_some, Some, None, Option, refl, ap}
 use Rattle.std.proofs.lemmas.Bool.{and_parts, and_from, leb-true, le-leb}
 use Rattle.std.specs.Option.{option_or}
 use Rattle.text.specs.Refusals.{ask, first}
@@ -14,16 +14,16 @@ use Rattle.formula.specs.Answers.{Within, Limits}
 -- there is no first place just if there is none of two
 or_none : (a b : Option ℕ) → option_or a b ≡ None → (a ≡ None) × (b ≡ None)
 or_none None b e = (refl, e)
-or_none (Some x) b e = absurd (let z : ◌≡◌ {A = ℕ} 0 1 = cc in omega arith)
+or_none (Some x) b e = absurd cc
 
 -- there is none of two, if there is neither
 none_or : (a b : Option ℕ) → a ≡ None → b ≡ None → option_or a b ≡ None
-none_or a b p q = ap (λ z. option_or z b) p ∙ q
+none_or a b p q = rw p q
 
 -- a question leaves no fault just if its answer is yes
 ask_none : (b : Bool) (x : ℕ) → ask b x ≡ None → b ≡ true
 ask_none true x e = refl
-ask_none false x e = absurd (let z : ◌≡◌ {A = ℕ} 0 1 = cc in omega arith)
+ask_none false x e = absurd cc
 
 -- and a yes leaves none
 none_ask : (b : Bool) (x : ℕ) → b ≡ true → ask b x ≡ None
@@ -31,7 +31,7 @@ none_ask b x e = ap (λ z. ask z x) e
 
 -- what is some is some value
 some_value : {X : Type 0} (x : Option X) → is_some x ≡ true → (o : X) × (x ≡ Some o)
-some_value None e = absurd (let z : ◌≡◌ {A = ℕ} 0 1 = cc in omega arith)
+some_value None e = absurd cc
 some_value (Some o) e = (o, refl)
 
 -- a formula that can be spelled is lawful, if no number of it is large and no until is unbounded
@@ -103,22 +103,14 @@ record Clear (large : Option ℕ) (deep room : Bool) (unbounded : Option ℕ) : 
 -- where there is no fault, each answer is yes
 clear : (large : Option ℕ) (deep room : Bool) (unb : Option ℕ) → first (placed fault.Number large ∷ ask deep fault.Depth ∷ ask room fault.Records ∷ placed fault.Until unb ∷ []) ≡ None → Clear large deep room unb
 clear None true true None e = record { small = refl; shallow = refl; enough = refl; bounded = refl }
-clear None true true (Some p) e = absurd (let z : ◌≡◌ {A = ℕ} 0 1 = cc in omega arith)
-clear None true false u e = absurd (let z : ◌≡◌ {A = ℕ} 0 1 = cc in omega arith)
-clear None false b u e = absurd (let z : ◌≡◌ {A = ℕ} 0 1 = cc in omega arith)
-clear (Some p) a b u e = absurd (let z : ◌≡◌ {A = ℕ} 0 1 = cc in omega arith)
+clear None true true (Some p) e = absurd cc
+clear None true false u e = absurd cc
+clear None false b u e = absurd cc
+clear (Some p) a b u e = absurd cc
 
 -- where each answer is yes, there is no fault
 cleared : (large : Option ℕ) (deep room : Bool) (unb : Option ℕ) → Clear large deep room unb → first (placed fault.Number large ∷ ask deep fault.Depth ∷ ask room fault.Records ∷ placed fault.Until unb ∷ []) ≡ None
-cleared large deep room unb c =
-    let e₁ = c.small in
-    let e₂ = c.shallow in
-    let e₃ = c.enough in
-    let e₄ = c.bounded in
-    ap (λ z. first (placed fault.Number z ∷ ask deep fault.Depth ∷ ask room fault.Records ∷ placed fault.Until unb ∷ [])) e₁
-    ∙ ap (λ z. first (ask z fault.Depth ∷ ask room fault.Records ∷ placed fault.Until unb ∷ [])) e₂
-    ∙ ap (λ z. first (ask z fault.Records ∷ placed fault.Until unb ∷ [])) e₃
-    ∙ ap (λ z. first (placed fault.Until z ∷ [])) e₄
+cleared large deep room unb c = rw (c.small, c.shallow, c.enough, c.bounded) refl
 
 -- the theorem of the limits
 pub limits : Limits

@@ -1,24 +1,14 @@
 -- The digits read so far, and the number that they write.
-use Rattle.std.proofs.Common.{◌≡◌, ℕ, zero, suc, ◌+◌, ◌-◌, ◌*◌, ◌/◌, ◌%◌, ◌^◌, ◌<◌, ◌≤◌, true, false, eqb, ltb, leb, ◌⊎◌, List, [], ◌∷◌, ◌++◌, length, get_or, take, drop, decimal, sym, refl, ap, ◌∙◌, subst, inl, inr, ⊎_elim, add-zero, mul-le-mul_left, pow-suc, mul-one, add-one, arith, lit<, lit≤, length-append, length-drop, drop-drop, pow-add}
+use Rattle.std.proofs.Common.{◌≡◌, ℕ, ◌+◌, ◌-◌, ◌*◌, ◌/◌, ◌%◌, ◌^◌, ◌<◌, ◌≤◌, true, false, eqb, ltb, leb, ◌⊎◌, List, [], ◌∷◌, ◌++◌, length, get_or, take, drop, Ok, decimal, sym, refl, ap, ◌∙◌, subst, inl, inr, ⊎_elim, add-zero, pow-suc, add-one, arith, lit<, length-append, length-drop, drop-drop}
 use Rattle.std.proofs.lemmas.List.{drop_more, drop_all, get_or-drop, take_more, take-append-drop, length-take-le}
 use Rattle.std.proofs.lemmas.Bool.{cases_lt, and_parts, and_cases, or_cases, or_parts, leb-true, leb-false, eqb-true, eqb-false, ltb-true, ltb-false}
+use Rattle.std.proofs.Math.Nat.{pow-le-pow_right}
 use Rattle.std.proofs.lemmas.Fmt.{decimal_digit, decimal_step, length-decimal-le, first_decimal}
-use Rattle.grammar.specs.Words.{Shut, Read, Refused}
-use Rattle.grammar.specs.Spelling.{FewDigits}
+use Rattle.grammar.specs.Words.{Shut, Refused}
 use Rattle.grammar.specs.Languages.{NumberWord}
 use Rattle.grammar.proofs.Chains.{none_begins}
 use Rattle.grammar.proofs.Parts.{few_fits, digit_inside, number_some}
-use Rattle.formula.specs.Tokens.{follows, DigitsBegun, DigitsRead}
-
--- ten to the n is at most ten to the m, if n is at most m
-powers : (n k m : ℕ) → n + k ≡ m → 10 ^ n ≤ 10 ^ m
-powers n k m e =
-    let split : 10 ^ m ≡ 10 ^ n * 10 ^ k = ap (λ z. 10 ^ z) (sym e) ∙ pow-add 10 n k in
-    omega (arith, split, mul-le-mul_left (10 ^ n) (positive k), mul-one (10 ^ n))
-  where
-    positive : (k : ℕ) → 1 ≤ 10 ^ k
-    positive zero = lit≤ tt
-    positive (suc k) = omega (arith, positive k, pow-suc 10 k)
+use Rattle.formula.specs.Tokens.{follows, NumberReads, DigitsBegun, DigitsRead}
 
 -- a digit more at the end of a number
 last_digit : (v d : ℕ) → d < 10 → 0 < v → v < 10 ^ 10 → decimal (v * 10 + d) ≡ decimal v ++ ((48 + d) ∷ [])
@@ -59,7 +49,7 @@ begun_more field n v s l h passes =
       within = omega arith;
       short = omega arith;
       bound = up;
-      small = omega (arith, up, powers (n + 1) (9 - n) 10 (omega (arith, h)));
+      small = omega (arith, up, pow-le-pow_right {n = 10} (lit< tt) {i = n + 1} {j = 10} (omega (arith, h)));
       empty = λ e. absurd (omega (arith, e));
       written = λ _. ⊎_elim
           (λ e.
@@ -95,13 +85,14 @@ no_longer field n v d some l r w =
     (follows_false v n b (d.stop l (omega (arith, long, ten))))
 
 -- the digits that were read are a number, as far as it goes
-pub number_read : (text : List ℕ) (at n v : ℕ) → at ≤ length text → DigitsRead (drop at text) v n → 0 < n → FewDigits v × Read NumberWord (decimal v) text at (at + n)
+pub number_read : (text : List ℕ) (at n v : ℕ) → at ≤ length text → DigitsRead (drop at text) v n → 0 < n → NumberReads text at (Ok (record { value = v; place = at }, at + n))
 number_read text at n v l d some =
     let s = d.front in
     let field = drop at text in
     let front : length (decimal v) ≡ n = ap length (sym (s.written some)) ∙ length-take-le n field s.within in
     let after : drop (at + n) text ≡ drop n field = sym (drop-drop n at text) in (
       s.small,
+      refl,
       record {
         lawful = (v, s.small, refl);
         stands = record {

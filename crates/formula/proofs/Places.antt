@@ -36,12 +36,12 @@ or_some (Some x) b p e = inl e
 
 -- a question that finds a place was answered no, and the place is its own
 ask_some : (b : Bool) (x p : ℕ) → ask b x ≡ Some p → (b ≡ false) × (x ≡ p)
-ask_some true x p e = absurd (let z : ◌≡◌ {A = ℕ} 0 1 = cc in omega arith)
+ask_some true x p e = absurd cc
 ask_some false x p e = (refl, cc)
 
 -- there is no place where there is none
 no_place : {X : Type 0} (p : ℕ) → ◌≡◌ {A = Option ℕ} None (Some p) → X
-no_place p e = absurd (let z : ◌≡◌ {A = ℕ} 0 1 = cc in omega arith)
+no_place p e = absurd cc
 
 -- a number above its limit that stands at its place
 large_here : (t : List ℕ) (n limit at e p : ℕ) → most_steps ≤ limit → Stands (decimal n) t at e → ask (leb n limit) at ≡ Some p → LargeAt t p

@@ -1,15 +1,17 @@
 -- Bytes, comparisons, bounds and steps in a text.
-use Rattle.std.proofs.Common.{◌≡◌, ℕ, ◌+◌, ◌<◌, ◌≤◌, true, false, ltb, List, [], ◌∷◌, ◌++◌, length, get_or, drop, Some, None, decimal, sym, refl, ap, ◌∙◌, subst, inl, inr, ⊎_elim, arith, lit<}
+use Rattle.std.proofs.Common.{◌≡◌, ℕ, ◌+◌, ◌-◌, ◌<◌, ◌≤◌, true, false, ltb, List, [], ◌∷◌, ◌++◌, length, get_or, take, drop, Some, None, Ok, decimal, sym, refl, ap, ◌∙◌, subst, ⊎_elim, append_assoc, add-zero, arith, lit<, length-append, length-drop}
+use Rattle.std.proofs.lemmas.List.{drop_more, get_or-drop, take_more, take_rest, take-append-drop, length-take-le, nil_from_length, append_cancel_left}
 use Rattle.std.proofs.lemmas.Bool.{and_parts, and_cases, ltb-true, ltb-false, eqb-true, eqb-false}
 use Rattle.std.proofs.lemmas.Fmt.{decimal_digit}
 use Rattle.theory.specs.Formulas.{below}
 use Rattle.grammar.specs.Words.{Language, Shut, Stands, Read, Refused}
-use Rattle.grammar.specs.Spelling.{sign, print_bound, FewDigits}
-use Rattle.grammar.specs.Languages.{Just, SignWord, NumberWord, BoundWord, StepsWord}
-use Rattle.grammar.proofs.Chains.{Then, heads, tails, at_head, just_read, none_begins, free_just, free_apart, then_read, then_refused, first_refused, widen_refused, byte_stands, stands_then}
-use Rattle.grammar.proofs.Parts.{sign_some, sign_first, sign_second, sign_third, sign_then_number, bound_parts, bound_whole}
+use Rattle.grammar.specs.Spelling.{sign, print_bound}
+use Rattle.grammar.specs.Languages.{Only, Just, SignWord, NumberWord, BoundWord, StepsWord}
+use Rattle.grammar.proofs.Chains.{Then, heads, tails, just_read, none_begins, free_just, free_apart, then_read, then_refused, first_refused, widen_refused, stands_then}
+use Rattle.grammar.proofs.Parts.{sign_some, sign_first, sign_then_number, bound_parts, bound_whole}
 use Rattle.records.specs.declared.comparison.Comparison.{Comparison as Code}
-use Rattle.formula.specs.Tokens.{meant, has, BoundRead, StepsRead}
+use Rattle.formula.specs.declared.token.Number.{Number}
+use Rattle.formula.specs.Tokens.{meant, has, NumberReads, BoundRead, StepsRead}
 
 -- a byte that stands at a place is the byte there
 pub has_true : (t : List ℕ) (a b : ℕ) → has t a b ≡ true → (a < length t) × (get_or t a 0 ≡ b)
@@ -27,45 +29,53 @@ byte_read t a b e = let p = has_true t a b e in just_read b t a p.0 p.1
 pub byte_refused : (t : List ℕ) (a b : ℕ) → a ≤ length t → has t a b ≡ false → Refused (Just b) t a a
 byte_refused t a b l e = none_begins {L = Just b} t a l (λ w. omega (arith, ap length w)) b [] refl (λ k h w. has_false t a b e h (heads w))
 
--- a comparison of two bytes ends
-wide_ends : (x y : ℕ) (rest : List ℕ) → Shut SignWord (x ∷ y ∷ []) rest
-wide_ends x y [] = tt
-wide_ends x y (d ∷ rest) = λ r w. sign_third x y d r w
+-- a word's front and its next byte are a longer front
+pub word_more : {t : List ℕ} (word : List ℕ) (i : ℕ) {a m e : ℕ} → i < length word → Stands (take i word) t a m → Read (Just (get_or word i 0)) (get_or word i 0 ∷ []) t m e → Stands (take (i + 1) word) t a e
+word_more {t} word i {a} {m} {e} l s r = subst (λ (z : List ℕ). Stands z t a e) (sym (take_more word i 0 l)) (stands_then s r.stands)
 
--- one of one byte ends where no `=` follows
-narrow_ends : (t : List ℕ) (x e : ℕ) → has t e 61 ≡ false → Shut SignWord (x ∷ []) (drop e t)
-narrow_ends t x e h = go (drop e t) refl
+-- where its next byte is refused, so is the word
+pub word_refused : {t : List ℕ} (word : List ℕ) (i : ℕ) {a m p : ℕ} → i < length word → Stands (take i word) t a m → Refused (Just (get_or word i 0)) t m p → Refused (Only word) t a p
+word_refused {t} word i {a} {m} {p} l s r = record {
+  front = u ++ r.front;
+  opens = let (d, k, e) = r.opens in (d, k ++ rest, carried d k e);
+  none = λ e. omega (arith, ap length e, length-append u r.front, length-take-le i word (omega (arith, l)), empty, l);
+  shuts = go (drop p t) r.shuts;
+  stands = stands_then s r.stands;
+}
   where
-    go : (rest : List ℕ) → drop e t ≡ rest → Shut SignWord (x ∷ []) rest
-    go [] q = tt
-    go (d ∷ rest) q = λ r w. let z = at_head t e d rest q in has_false t e 61 h z.0 (sym z.1 ∙ sign_second x d r w)
+    b : ℕ
+    b = get_or word i 0
 
--- a comparison of two bytes is read
-pub read_wide : (t : List ℕ) (a x : ℕ) (c : Code) → sign (meant c) ≡ x ∷ 61 ∷ [] → has t a x ≡ true → has t (a + 1) 61 ≡ true → Read SignWord (sign (meant c)) t a (a + 2)
-read_wide t a x c e p q =
-    let p' = has_true t a x p in
-    let q' = has_true t (a + 1) 61 q in
-    let both : Stands (x ∷ 61 ∷ []) t a (a + 1 + 1) = stands_then (byte_stands x t a p'.0 p'.1) (byte_stands 61 t (a + 1) q'.0 q'.1) in
-    let two : a + 1 + 1 ≡ a + 2 = omega arith in
-    record {
-      lawful = (meant c, tt, refl);
-      stands = subst (λ (z : List ℕ). Stands z t a (a + 2)) (sym e) (subst (λ (z : ℕ). Stands (x ∷ 61 ∷ []) t a z) two both);
-      ends = subst (λ (z : List ℕ). Shut SignWord z (drop (a + 2) t)) (sym e) (wide_ends x 61 (drop (a + 2) t));
-    }
+    u : List ℕ
+    u = take i word
 
--- so is one of one byte
-pub read_narrow : (t : List ℕ) (a x : ℕ) (c : Code) → sign (meant c) ≡ x ∷ [] → has t a x ≡ true → has t (a + 1) 61 ≡ false → Read SignWord (sign (meant c)) t a (a + 1)
-read_narrow t a x c e p q =
-    let p' = has_true t a x p in
-    record {
-      lawful = (meant c, tt, refl);
-      stands = subst (λ (z : List ℕ). Stands z t a (a + 1)) (sym e) (byte_stands x t a p'.0 p'.1);
-      ends = subst (λ (z : List ℕ). Shut SignWord z (drop (a + 1) t)) (sym e) (narrow_ends t x (a + 1) q);
-    }
+    rest : List ℕ
+    rest = drop (i + 1) word
+
+    whole : u ++ (b ∷ rest) ≡ word
+    whole = ap (λ z. u ++ z) (sym (drop_more word i 0 l)) ∙ take-append-drop i word
+
+    empty : length r.front ≡ 0
+    empty = let (d, k, e) = r.opens in omega (arith, ap length e, length-append r.front (d ∷ k))
+
+    carried : (d : ℕ) (k : List ℕ) → r.front ++ d ∷ k ≡ b ∷ [] → (u ++ r.front) ++ d ∷ (k ++ rest) ≡ word
+    carried d k e =
+        append_assoc u r.front (d ∷ (k ++ rest)) ∙ ap (λ z. u ++ z) (sym (append_assoc r.front (d ∷ k) rest) ∙ ap (λ z. z ++ rest) e) ∙ whole
+
+    go : (y : List ℕ) → Shut (Just b) r.front y → Shut (Only word) (u ++ r.front) y
+    go [] h = tt
+    go (d ∷ y) h = λ k e.
+        let after : r.front ++ d ∷ k ≡ b ∷ rest = append_cancel_left u (r.front ++ d ∷ k) (b ∷ rest) (sym (append_assoc u r.front (d ∷ k)) ∙ e ∙ sym whole) in
+        let none : r.front ≡ [] = nil_from_length r.front empty in
+        h [] (ap (λ z. z ++ d ∷ []) none ∙ ap (λ z. z ∷ []) (heads (ap (λ z. z ++ d ∷ k) (sym none) ∙ after)))
+
+-- the rest of a text has the bytes from its place on, and begins with the first of them
+pub rest_of : (t : List ℕ) (a : ℕ) → (length (take (length t - a) (drop a t)) ≡ length t - a) × (get_or (take (length t - a) (drop a t)) 0 0 ≡ get_or t a 0)
+rest_of t a = (ap length (take_rest t a) ∙ length-drop a t, ap (λ z. get_or z 0 0) (take_rest t a) ∙ get_or-drop a t 0 0 ∙ ap (λ z. get_or t z 0) (add-zero a))
 
 -- without `<` and `>` there is no comparison
-pub no_sign : (t : List ℕ) (a : ℕ) → a ≤ length t → has t a 60 ≡ false → has t a 62 ≡ false → Refused SignWord t a a
-no_sign t a l p q = none_begins {L = SignWord} t a l sign_some 60 [] (below, tt, refl) (λ k h w. sign_first _ k w (has_false t a 60 p h) (has_false t a 62 q h))
+pub no_sign : (t : List ℕ) (a : ℕ) → a ≤ length t → (a < length t → get_or t a 0 ≡ 60 → ⊥) → (a < length t → get_or t a 0 ≡ 62 → ⊥) → Refused SignWord t a a
+no_sign t a l p q = none_begins {L = SignWord} t a l sign_some 60 [] (below, tt, refl) (λ k h w. sign_first _ k w (p h) (q h))
 
 -- a comparison and a number that are refused are refused as a bound
 as_bound : {t : List ℕ} {a p : ℕ} → Refused (Then SignWord NumberWord) t a p → Refused BoundWord t a p
@@ -95,18 +105,19 @@ sign_long c = long (sign (meant c)) (λ e. sign_some (meant c, tt, sym e))
     long (x ∷ w) h = omega arith
 
 -- a comparison and then a number are a bound
-pub whole_bound : (t : List ℕ) (a m e v : ℕ) (c : Code) → Read SignWord (sign (meant c)) t a m → FewDigits v × Read NumberWord (decimal v) t m e → BoundRead t a (record { comparison = c; number = v; place = m; end = e })
-whole_bound t a m e v c r (h, s) =
+pub whole_bound : (t : List ℕ) (a m e : ℕ) (n : Number) (c : Code) → Read SignWord (sign (meant c)) t a m → NumberReads t m (Ok (n, e)) → BoundRead t a (record { comparison = c; number = n; end = e })
+whole_bound t a m e n c r (h, here, s) =
     let both = then_read sign_then_number r s in
+    let v = n.value in
     record {
       few = h;
       read = record { lawful = ((meant c, v), h, refl); stands = both.stands; ends = go (drop e t) both.ends };
-      place = r.stands.place;
+      place = here ∙ r.stands.place;
       ahead = omega (arith, r.stands.place, s.stands.place, sign_long c);
       within = s.stands.within;
     }
   where
-    go : (rest : List ℕ) → Shut (Then SignWord NumberWord) (print_bound (meant c) v) rest → Shut BoundWord (print_bound (meant c) v) rest
+    go : (rest : List ℕ) → Shut (Then SignWord NumberWord) (print_bound (meant c) n.value) rest → Shut BoundWord (print_bound (meant c) n.value) rest
     go [] k = tt
     go (d ∷ rest) k = λ r w. k r (bound_parts _ w)
 
@@ -124,24 +135,6 @@ bytes_picked h r (None, l, e) = absurd (omega (arith, ap length e))
 bytes_picked h r (Some k, l, e) = (60 ∷ [], _, refl, (61 ∷ [], decimal k, refl, (k, l, refl), refl), e)
 
 module _ (t : List ℕ) (a : ℕ) where
-  -- where no `<` stands, there are no steps
-  pub no_steps : a ≤ length t → has t a 60 ≡ false → StepsRead t a (record { limit = None; place = a; end = a })
-  no_steps l e = record {
-    few = tt;
-    read = record { lawful = (None, tt, refl); stands = record { splits = refl; place = omega arith; within = l }; ends = go (drop a t) refl };
-    place = inl refl;
-    ahead = omega arith;
-    within = l;
-  }
-    where
-      never : (d : ℕ) (r : List ℕ) → (d ≡ 60 → ⊥) → StepsWord (d ∷ r) → ⊥
-      never d r n (None, h, q) = omega (arith, ap length q)
-      never d r n (Some k, h, q) = n (heads q)
-
-      go : (rest : List ℕ) → drop a t ≡ rest → Shut StepsWord [] rest
-      go [] q = tt
-      go (d ∷ rest) q = λ r w. let z = at_head t a d rest q in never d r (λ p. has_false t a 60 e z.0 (sym z.1 ∙ p)) w
-
   module _ (less : has t a 60 ≡ true) where
     -- what refuses the rest of them refuses them
     after_less : {p : ℕ} → Refused (Then (Just 61) NumberWord) t (a + 1) p → Refused StepsWord t a p
@@ -158,21 +151,22 @@ module _ (t : List ℕ) (a : ℕ) where
     steps_number_refused r s = after_less (then_refused (free_apart (free_just 61)) r s)
 
     -- with both, they are the steps
-    pub some_steps : {m e v : ℕ} → Read (Just 61) (61 ∷ []) t (a + 1) m → FewDigits v × Read NumberWord (decimal v) t m e → StepsRead t a (record { limit = Some v; place = m; end = e })
-    some_steps {m} {e} {v} r (h, s) =
+    pub some_steps : {m e : ℕ} {n : Number} → Read (Just 61) (61 ∷ []) t (a + 1) m → NumberReads t m (Ok (n, e)) → StepsRead t a (record { limit = Some n; end = e })
+    some_steps {m} {e} {n} r (h, here, s) =
+        let v = n.value in
         let whole : Stands (60 ∷ 61 ∷ decimal v) t a e = stands_then (byte_read t a 60 less).stands (stands_then r.stands s.stands) in
         record {
           few = h;
           read = record { lawful = (Some v, h, refl); stands = whole; ends = go (drop e t) s.ends };
-          place = inr (omega (arith, r.stands.place));
+          place = omega (arith, r.stands.place, here);
           ahead = omega (arith, whole.place);
           within = whole.within;
         }
       where
-        later : (d : ℕ) (r : List ℕ) → (NumberWord (decimal v ++ d ∷ r) → ⊥) → StepsWord (60 ∷ 61 ∷ (decimal v ++ d ∷ r)) → ⊥
-        later d r n (None, h, q) = omega (arith, ap length q)
-        later d r n (Some k, h, q) = n (k, h, tails (tails q))
+        later : (d : ℕ) (r : List ℕ) → (NumberWord (decimal n.value ++ d ∷ r) → ⊥) → StepsWord (60 ∷ 61 ∷ (decimal n.value ++ d ∷ r)) → ⊥
+        later d r never (None, h, q) = omega (arith, ap length q)
+        later d r never (Some k, h, q) = never (k, h, tails (tails q))
 
-        go : (rest : List ℕ) → Shut NumberWord (decimal v) rest → Shut StepsWord (60 ∷ 61 ∷ decimal v) rest
+        go : (rest : List ℕ) → Shut NumberWord (decimal n.value) rest → Shut StepsWord (60 ∷ 61 ∷ decimal n.value) rest
         go [] k = tt
         go (d ∷ rest) k = λ r w. later d r (k r) w

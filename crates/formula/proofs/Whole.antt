@@ -1,5 +1,6 @@
 -- From what is read at the start of a text to the whole text.
 use Rattle.std.proofs.Common.{◌≡◌, ℕ, zero, suc, ◌+◌, ◌-◌, ◌<◌, ◌≤◌, List, [], ◌∷◌, ◌++◌, length, take, drop, None, sym, refl, ap, ◌∙◌, subst, append_assoc, append-nil, arith, length-append, length-drop}
+use Rattle.std.proofs.Math.Seq.{take-append-add}
 use Rattle.std.proofs.lemmas.List.{drop_all, set_at, take_all}
 use Rattle.theory.specs.Formulas.{Formula}
 use Rattle.grammar.specs.Words.{Language, Shut, Stands, Refused}
@@ -9,7 +10,7 @@ use Rattle.grammar.proofs.Readings.{only}
 use Rattle.records.specs.declared.record.Record.{Record}
 use Rattle.formula.specs.declared.reading.Reading.{Reading}
 use Rattle.formula.specs.Records.{size, records}
-use Rattle.formula.specs.Questions.{first_large, depth, fault_by, formula_fault}
+use Rattle.formula.specs.Questions.{fault_by, formula_fault}
 use Rattle.formula.specs.Readings.{overlaid, StateRead}
 use Rattle.formula.specs.Answers.{Begins, NoFormula, WholeRead, Within, Accepted}
 use Rattle.formula.proofs.Forms.{state_word, length_records}
@@ -17,9 +18,7 @@ use Rattle.formula.proofs.Limits.{limits}
 
 -- the beginning of a list that goes past its front
 take_past : (u v : List ℕ) (m n : ℕ) → n ≡ length u + m → take n (u ++ v) ≡ u ++ take m v
-take_past [] v m n e = ap (λ z. take z v) (let q : n ≡ m = omega (arith, e) in q)
-take_past (x ∷ u) v m zero e = absurd (omega (arith, e))
-take_past (x ∷ u) v m (suc n) e = ap (λ z. x ∷ z) (take_past u v m n (omega (arith, e)))
+take_past u v m n e = ap (λ z. take z (u ++ v)) e ∙ take-append-add u v m
 
 -- a front that the next byte shuts begins no word with more of the rest
 shut_more : (L : Language) (front rest : List ℕ) → Shut L front rest → (m : ℕ) → 0 < m → m ≤ length rest → (r : List ℕ) → L (front ++ (take m rest ++ r)) → ⊥
@@ -86,11 +85,7 @@ module _ {text : List ℕ} {lent left : List Record} {r : Reading} (s : StateRea
 
 -- the fault that is found by what is known is the formula's
 pub same_fault : {text : List ℕ} {r : Reading} (n : ℕ) (s : WholeRead text r) → fault_by r.large r.depth r.count n r.unbounded ≡ formula_fault n s.formula
-same_fault {text} {r} n s =
-    ap (λ z. fault_by z r.depth r.count n r.unbounded) s.large
-    ∙ ap (λ z. fault_by (first_large 0 s.formula) z r.count n r.unbounded) s.deep
-    ∙ ap (λ z. fault_by (first_large 0 s.formula) (depth s.formula) z n r.unbounded) s.counts
-    ∙ ap (λ z. fault_by (first_large 0 s.formula) (depth s.formula) (size s.formula) n z) s.unbounded
+same_fault {text} {r} n s = rw (s.large, s.deep, s.counts, s.unbounded) refl
 
 -- what is written over the front of a list stands there, and what is beyond it is as it was
 overlaid_at : (u v rs : List Record) (k : ℕ) → k ≡ length u → length rs ≤ length v → overlaid (u ++ v) k rs ≡ u ++ (rs ++ drop (length rs) v)

@@ -7,6 +7,7 @@ use Rattle.theory.specs.Formulas.{Comparison, Formula, PathFormula, extremal, mo
 use Rattle.grammar.specs.Words.{Stands, Refused}
 use Rattle.grammar.specs.Spelling.{print, print_path, Spelled, SpelledPath}
 use Rattle.grammar.specs.Languages.{StateWord, PathWord, AtomWord}
+use Rattle.formula.specs.declared.token.Number.{Number}
 use Rattle.formula.specs.declared.token.Bound.{Bound}
 use Rattle.records.specs.declared.record.Kind.{Kind}
 use Rattle.records.specs.declared.record.Kind.TheVariants.{Truth, Label, Negation, Conjunction, Next, UntilWithin, Until}
@@ -49,15 +50,15 @@ preceded large unbounded r = record {
 abbrev pub next_path : Reading → Path
 next_path r = record { kind = Next; first = r.count - 1; second = 0; steps = 0; parts = r }
 
--- an until of two parts with its steps, whose first digit stands at the place
-abbrev pub until_path : Reading → Option ℕ → ℕ → Reading → Path
-until_path l None place r = record { kind = Until; first = l.count - 1; second = r.count - 1; steps = 0; parts = joined l (preceded None None r) }
-until_path l (Some k) place r = record {
+-- an until of two parts with its steps
+abbrev pub until_path : Reading → Option Number → Reading → Path
+until_path l None r = record { kind = Until; first = l.count - 1; second = r.count - 1; steps = 0; parts = joined l (preceded None None r) }
+until_path l (Some n) r = record {
   kind = UntilWithin;
   first = l.count - 1;
   second = r.count - 1;
-  steps = k;
-  parts = joined l (preceded (ask (nat_le k most_steps) place) None r);
+  steps = n.value;
+  parts = joined l (preceded (ask (nat_le n.value most_steps) n.place) None r);
 }
 
 -- the place, if a probability of this kind is an until without steps under a bound that is none of its three
@@ -72,11 +73,11 @@ kind_unbounded Until c b at = ask (is_some (extremal c b)) at
 
 -- the probability over a path, from `at` to the end
 abbrev pub probability : ℕ → Bound → Path → ℕ → Reading
-probability at b p end = entire (preceded (ask (nat_le b.number whole) b.place) (kind_unbounded p.kind (meant b.comparison) b.number at) p.parts) end
+probability at b p end = entire (preceded (ask (nat_le b.number.value whole) b.number.place) (kind_unbounded p.kind (meant b.comparison) b.number.value at) p.parts) end
 
 -- its record
 abbrev pub path_record : Path → Bound → Record
-path_record p b = line p.kind p.first p.second (Some b.comparison) b.number p.steps
+path_record p b = line p.kind p.first p.second (Some b.comparison) b.number.value p.steps
 
 -- a list with others written over it from place k on, as far as it goes
 abbrev pub overlaid : {A : Type 0} → List A → ℕ → List A → List A

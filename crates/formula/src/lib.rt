@@ -2,6 +2,7 @@
 // grammar and records crates.
 #![tactic(auto)]
 
+mod cursor;
 mod formulas;
 pub mod reader;
 mod reading;

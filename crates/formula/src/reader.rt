@@ -3,6 +3,7 @@ ghost use Rattle.grammar.specs.Spelling.{OneReading};
 ghost use Rattle.formula.specs.Questions.{fault_by};
 ghost use Rattle.formula.specs.Answers.{Limits, Places, FormulaAnswer, JudgeAnswer, Surveyed};
 
+use crate::cursor::Cursor;
 use crate::formulas::state_formula;
 use crate::reading::Reading;
 use records::fault::{FormulaFault, JudgeFault};
@@ -31,9 +32,9 @@ fn fill(text: &[u8], records: &mut [Record]) -> Result<usize, FormulaFault>
     if let Some(fault) = fault_of(reading, records.len()) {
         return Err(fault);
     }
-    match state_formula(text, 0, records, 0) {
+    match state_formula(Cursor { text, at: 0 }, records, 0) {
         Ok(_) => Ok(reading.count),
-        Err(_) => unreachable(),
+        Err(_) => unreachable!(),
     }
 }
 
@@ -41,7 +42,7 @@ fn fill(text: &[u8], records: &mut [Record]) -> Result<usize, FormulaFault>
 fn survey(text: &[u8]) -> Result<Reading, FormulaFault>
     ensures { Surveyed text.now result }
 {
-    match state_formula(text, 0, &mut [], 0) {
+    match state_formula(Cursor { text, at: 0 }, &mut [], 0) {
         Ok(reading) if reading.end == text.len() => Ok(reading),
         Ok(reading) => Err(FormulaFault::NoFormula { place: reading.end }),
         Err(place) => Err(FormulaFault::NoFormula { place }),
@@ -52,17 +53,9 @@ fn survey(text: &[u8]) -> Result<Reading, FormulaFault>
 fn fault_of(reading: Reading, lent: usize) -> Option<FormulaFault>
     ensures { result ≡ fault_by reading.large reading.depth reading.count lent reading.unbounded }
 {
-    if let Some(place) = reading.large {
-        return Some(FormulaFault::Number { place });
-    }
-    if reading.depth > 32 {
-        return Some(FormulaFault::Depth);
-    }
-    if reading.count > 64 || reading.count > lent {
-        return Some(FormulaFault::Records);
-    }
-    if let Some(place) = reading.unbounded {
-        return Some(FormulaFault::Until { place });
-    }
-    None
+    let large = reading.large.map(|place| FormulaFault::Number { place });
+    let deep = (reading.depth > 32).then_some(FormulaFault::Depth);
+    let many = (reading.count > 64 || reading.count > lent).then_some(FormulaFault::Records);
+    let unbounded = reading.unbounded.map(|place| FormulaFault::Until { place });
+    large.or(deep).or(many).or(unbounded)
 }

@@ -4,7 +4,7 @@ ghost use Rattle.theory.specs.Formulas.{extremal as theory_extremal};
 ghost use Rattle.formula.specs.Tokens.{meant};
 ghost use Rattle.formula.specs.Readings.{kind_unbounded, atom, joined, entire, preceded, next_path, until_path, probability, path_record};
 
-use crate::token::{Bound, Steps};
+use crate::token::{Bound, Number};
 use records::comparison::Comparison;
 use records::record::{Kind, Record};
 
@@ -27,7 +27,8 @@ pub(crate) struct Reading {
 }
 
 // What is known of a path formula that was read: the kind of a probability over it, the numbers of its parts' records,
-// its steps, and what is known of its parts.
+// its steps, and what is known of its parts. What a next has not is 0, as in the record, which gets these fields as they
+// are: with a variant for each kind, its kind, its record and its parts would each be told apart anew.
 #[derive(Clone, Copy)]
 pub(crate) struct Path {
     pub kind: Kind,
@@ -37,11 +38,11 @@ pub(crate) struct Path {
     pub parts: Reading,
 }
 
-// The place, if the number that stands there is above its limit.
-fn excess(number: u64, limit: u64, place: usize) -> Option<usize>
-    ensures { result ≡ ask (nat_le number limit) place }
+// The place of the number, if it is above its limit.
+fn excess(number: Number, limit: u64) -> Option<usize>
+    ensures { result ≡ ask (nat_le number.value limit) number.place }
 {
-    if number <= limit { None } else { Some(place) }
+    (number.value > limit).then_some(number.place)
 }
 
 // Is the bound one of the three that an until without steps may stand under?
@@ -50,26 +51,17 @@ fn extremal(comparison: Comparison, number: u64) -> bool
 {
     match comparison {
         Comparison::Below => false,
-        Comparison::AtMost => number == 0,
-        Comparison::Above => number == 0,
+        Comparison::AtMost | Comparison::Above => number == 0,
         Comparison::AtLeast => number == WHOLE,
     }
 }
 
 // The place, if a probability of this kind is an until without steps that may not stand under the bound.
 fn unbounded(kind: Kind, bound: Bound, at: usize) -> Option<usize>
-    ensures { result ≡ kind_unbounded kind (meant bound.comparison) bound.number at }
+    ensures { result ≡ kind_unbounded kind (meant bound.comparison) bound.number.value at }
 {
-    match kind {
-        Kind::Until => {
-            if extremal(bound.comparison, bound.number) {
-                None
-            } else {
-                Some(at)
-            }
-        }
-        _ => None,
-    }
+    let bad = matches!(kind, Kind::Until) && !extremal(bound.comparison, bound.number.value);
+    bad.then_some(at)
 }
 
 impl Reading {
@@ -141,23 +133,19 @@ impl Path {
     }
 
     // An until of these two parts with these steps.
-    pub(crate) fn until(left: Reading, steps: Steps, right: Reading) -> Path
+    pub(crate) fn until(left: Reading, limit: Option<Number>, right: Reading) -> Path
         requires { (0 < left.count) × (0 < right.count) }
-        ensures { result ≡ until_path left steps.limit steps.place right }
+        ensures { result ≡ until_path left limit right }
     {
-        let (kind, number, large) = match steps.limit {
-            Some(limit) => (
-                Kind::UntilWithin,
-                limit,
-                excess(limit, MOST_STEPS, steps.place),
-            ),
+        let (kind, steps, large) = match limit {
+            Some(limit) => (Kind::UntilWithin, limit.value, excess(limit, MOST_STEPS)),
             None => (Kind::Until, 0, None),
         };
         Path {
             kind,
             first: left.count - 1,
             second: right.count - 1,
-            steps: number,
+            steps,
             parts: left.joined(right.preceded(large, None)),
         }
     }
@@ -167,7 +155,7 @@ impl Path {
         requires { (self.parts.count + 1 < 2 ^ 64) × (self.parts.depth + 1 < 2 ^ 64) }
         ensures { result ≡ probability at bound self end }
     {
-        let large = excess(bound.number, WHOLE, bound.place);
+        let large = excess(bound.number, WHOLE);
         let unbounded = unbounded(self.kind, bound, at);
         self.parts.preceded(large, unbounded).entire(end)
     }
@@ -181,7 +169,7 @@ impl Path {
             first: self.first,
             second: self.second,
             comparison: Some(bound.comparison),
-            number: bound.number,
+            number: bound.number.value,
             steps: self.steps,
             yes: 0,
             undecided: 0,

@@ -1,128 +1,109 @@
-ghost use Rattle.std.specs.Prelude.{◌≡◌, ◌≤◌, length};
-ghost use Rattle.formula.specs.Tokens.{has, follows, JustReads, SignReads, NumberReads, BoundReads, StepsReads, DigitsRead};
+ghost use Rattle.std.specs.Prelude.{◌≡◌};
+ghost use Rattle.formula.specs.Tokens.{follows, SignReads, NumberReads, BoundReads, StepsReads, DigitsRead};
 
+use crate::cursor::Cursor;
 use records::comparison::Comparison;
 
-// A comparison and the bound that it compares with, the place of the bound's first digit, and the place after it.
+// A number, and the place of its first digit.
+#[derive(Clone, Copy)]
+pub(crate) struct Number {
+    pub value: u64,
+    pub place: usize,
+}
+
+// A comparison and the bound that it compares with, and the place after them.
 #[derive(Clone, Copy)]
 pub(crate) struct Bound {
     pub comparison: Comparison,
-    pub number: u64,
-    pub place: usize,
+    pub number: Number,
     pub end: usize,
 }
 
-// The steps of an until, if it has any, the place of their first digit, and the place after them.
+// The steps of an until, if it has any, and the place after them.
 #[derive(Clone, Copy)]
 pub(crate) struct Steps {
-    pub limit: Option<u64>,
-    pub place: usize,
+    pub limit: Option<Number>,
     pub end: usize,
 }
 
-// Does the byte stand at the place?
-pub(crate) fn stands(text: &[u8], at: usize, byte: u8) -> bool
-    ensures { result ≡ has text.now at byte }
-{
-    at < text.len() && text[at] == byte
-}
-
-// The place after the byte, if it stands at `at`; else that place.
-pub(crate) fn expect(text: &[u8], at: usize, byte: u8) -> Result<usize, usize>
-    requires { at ≤ length text.now }
-    ensures { JustReads byte text.now at result }
-{
-    if stands(text, at, byte) {
-        Ok(at + 1)
-    } else {
-        Err(at)
-    }
-}
-
-// The comparison at `at`, as far as it goes, and the place after it; or the place where it breaks off.
-pub(crate) fn read_comparison(text: &[u8], at: usize) -> Result<(Comparison, usize), usize>
-    requires { at ≤ length text.now }
-    ensures { SignReads text.now at result }
-{
-    if stands(text, at, b'<') {
-        if stands(text, at + 1, b'=') {
-            return Ok((Comparison::AtMost, at + 2));
+impl Cursor<'_> {
+    // The comparison here, as far as it goes, and the place after it; or the place where it breaks off.
+    fn read_comparison(self) -> Result<(Comparison, usize), usize>
+        ensures { SignReads self.entry.text.now self.entry.at result }
+    {
+        let Cursor { text, at } = self;
+        match &text[at..] {
+            [b'<', b'=', ..] => Ok((Comparison::AtMost, at + 2)),
+            [b'<', ..] => Ok((Comparison::Below, at + 1)),
+            [b'>', b'=', ..] => Ok((Comparison::AtLeast, at + 2)),
+            [b'>', ..] => Ok((Comparison::Above, at + 1)),
+            _ => Err(at),
         }
-        return Ok((Comparison::Below, at + 1));
     }
-    if stands(text, at, b'>') {
-        if stands(text, at + 1, b'=') {
-            return Ok((Comparison::AtLeast, at + 2));
-        }
-        return Ok((Comparison::Above, at + 1));
-    }
-    Err(at)
-}
 
-// The number at `at`, as far as it goes, and the place after it; or the place where it breaks off.
-pub(crate) fn read_number(text: &[u8], at: usize) -> Result<(u64, usize), usize>
-    requires { at ≤ length text.now }
-    ensures { NumberReads text.now at result }
-{
-    let (value, length) = digits(&text[at..]);
-    if length == 0 {
-        return Err(at);
+    // The number here, as far as it goes, and the place after it; or the place where it breaks off.
+    fn read_number(self) -> Result<(Number, usize), usize>
+        ensures { NumberReads self.entry.text.now self.entry.at result }
+    {
+        let Cursor { text, at } = self;
+        let (value, length) = digits(&text[at..]);
+        if length == 0 {
+            return Err(at);
+        }
+        Ok((Number { value, place: at }, at + length))
     }
-    Ok((value, at + length))
+
+    // The comparison and the bound here, or the place where they break off.
+    pub(crate) fn read_bound(self) -> Result<Bound, usize>
+        ensures { BoundReads self.entry.text.now self.entry.at result }
+    {
+        let text = self.text;
+        let (comparison, at) = self.read_comparison()?;
+        let (number, end) = Cursor { text, at }.read_number()?;
+        Ok(Bound {
+            comparison,
+            number,
+            end,
+        })
+    }
+
+    // The steps here, which may be none, or the place where they break off.
+    pub(crate) fn read_steps(self) -> Result<Steps, usize>
+        ensures { StepsReads self.entry.text.now self.entry.at result }
+    {
+        let Cursor { text, at } = self;
+        if !self.stands(b'<') {
+            return Ok(Steps {
+                limit: None,
+                end: at,
+            });
+        }
+        let place = self.expect_at(at + 1, b'=')?;
+        let (number, end) = Cursor { text, at: place }.read_number()?;
+        Ok(Steps {
+            limit: Some(number),
+            end,
+        })
+    }
 }
 
 // The number that the longest front of at most ten digits writes, and how many digits it has: after a 0 comes no other.
 fn digits(field: &[u8]) -> (u64, usize)
     ensures { DigitsRead field.now result.0 result.1 }
 {
-    let mut length = 0;
     let mut value: u64 = 0;
-    while length < field.len() && length < 10 && may_follow(value, length, field[length]) {
-        value = value * 10 + (field[length] - b'0') as u64;
-        length += 1;
+    for (length, byte) in field.iter().enumerate() {
+        if length == 10 || !may_follow(value, length, *byte) {
+            return (value, length);
+        }
+        value = value * 10 + (*byte - b'0') as u64;
     }
-    (value, length)
+    (value, field.len())
 }
 
 // May the byte follow so many digits that write this value?
 fn may_follow(value: u64, length: usize, byte: u8) -> bool
     ensures { result ≡ follows value length byte }
 {
-    byte >= b'0' && byte <= b'9' && (length == 0 || value > 0)
-}
-
-// The comparison and the bound at `at`, or the place where they break off.
-pub(crate) fn read_bound(text: &[u8], at: usize) -> Result<Bound, usize>
-    requires { at ≤ length text.now }
-    ensures { BoundReads text.now at result }
-{
-    let (comparison, place) = read_comparison(text, at)?;
-    let (number, end) = read_number(text, place)?;
-    Ok(Bound {
-        comparison,
-        number,
-        place,
-        end,
-    })
-}
-
-// The steps at `at`, which may be none, or the place where they break off.
-pub(crate) fn read_steps(text: &[u8], at: usize) -> Result<Steps, usize>
-    requires { at ≤ length text.now }
-    ensures { StepsReads text.now at result }
-{
-    if !stands(text, at, b'<') {
-        return Ok(Steps {
-            limit: None,
-            place: at,
-            end: at,
-        });
-    }
-    let place = expect(text, at + 1, b'=')?;
-    let (number, end) = read_number(text, place)?;
-    Ok(Steps {
-        limit: Some(number),
-        place,
-        end,
-    })
+    byte.is_ascii_digit() && (length == 0 || value > 0)
 }

@@ -1,15 +1,14 @@
 // The cases of the formula reader: each line of the input has the word `formula`, a name, how many records are lent, and a
 // formula's text, which is read; what came of it is printed. The expected output was worked out from the rules of the
 // grammar without any of this code.
-// It may use the crates model, theory, text, grammar, records and formula.
+// It may use the crates model, theory, text, grammar, records, formula and escapes.
 #![tactic(auto)]
 
-mod escape;
-
-use escape::expand;
+use escapes::expand;
 use formula::reader::read_formula;
 use records::record::{Kind, Record};
 use std::alloc::{AllocError, Global};
+use std::fmt::Write;
 use std::io;
 use std::io::{BufRead, BufReader};
 
@@ -28,33 +27,33 @@ const BEFORE: Record = Record {
 // The fields of the first records by their numbers.
 fn listed(heap: Global, records: &[Record], count: usize) -> Result<String, AllocError> {
     let mut out = String::new(heap);
-    for (i, record) in records.iter().enumerate() {
-        if i < count {
-            let kind = record.kind.number();
-            let first = record.first;
-            let second = record.second;
-            let comparison = record.comparison_number();
-            let number = record.number;
-            let steps = record.steps;
-            let yes = record.yes;
-            let undecided = record.undecided;
-            let line = format!(in heap;
-                " ({kind} {first} {second} {comparison} {number} {steps} {yes} {undecided})"
-            )?;
-            out.push_str(line.as_str())?;
-        }
+    for record in records.iter().take(count) {
+        let kind = record.kind.number();
+        let comparison = record.comparison_number();
+        let Record {
+            first,
+            second,
+            number,
+            steps,
+            yes,
+            undecided,
+            ..
+        } = *record;
+        write!(
+            out,
+            " ({kind} {first} {second} {comparison} {number} {steps} {yes} {undecided})"
+        )?;
     }
     Ok(out)
 }
 
 // Whether all records from number `from` on are as they were.
 fn untouched(records: &[Record], from: usize) -> &'static str {
-    for (i, record) in records.iter().enumerate() {
-        if i >= from && *record != BEFORE {
-            return "changed";
-        }
+    if records.iter().skip(from).all(|record| *record == BEFORE) {
+        "untouched"
+    } else {
+        "changed"
     }
-    "untouched"
 }
 
 // Tries one case: the text is read into so many records.
@@ -78,16 +77,12 @@ fn tried(rt: &HostRuntime, name: &str, lent: usize, text: &[u8]) -> io::Result<(
 
 // Tries the case that a line has: a name, how many records are lent, and an escaped text.
 fn read(rt: &HostRuntime, case: &str) -> io::Result<()> {
-    if let Some((name, rest)) = case.split_once(' ') {
-        if let Some((lent, escaped)) = rest.split_once(' ') {
-            let text = expand(rt.alloc(), escaped)?;
-            tried(
-                rt,
-                name,
-                lent.parse::<usize>().unwrap_or(0),
-                text.as_slice(),
-            )?;
-        }
+    if let Some((name, rest)) = case.split_once(' ')
+        && let Some((lent, escaped)) = rest.split_once(' ')
+    {
+        let text = expand(rt.alloc(), escaped)?;
+        let lent = lent.parse::<usize>().unwrap_or(0);
+        tried(rt, name, lent, text.as_slice())?;
     }
     Ok(())
 }

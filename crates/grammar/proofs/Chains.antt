@@ -1,6 +1,6 @@
 -- One language after another, and the part of a language that the first byte picks.
 use Rattle.std.proofs.Common.{◌≡◌, ℕ, ◌+◌, ◌<◌, ◌≤◌, ◌⊎◌, List, [], ◌∷◌, ◌++◌, length, get_or, drop, sym, refl, ap, ◌∙◌, subst, inl, inr, ⊎_elim, append_assoc, append-nil, arith, length-append, length-drop}
-use Rattle.std.proofs.lemmas.List.{drop_more}
+use Rattle.std.proofs.lemmas.List.{drop_more, append_cancel_left}
 use Rattle.grammar.specs.Words.{Language, Shut, Stands, Read, Refused}
 use Rattle.grammar.specs.Languages.{Just}
 
@@ -23,11 +23,6 @@ heads e = cc
 -- and equal rests
 pub tails : {a b : ℕ} {x y : List ℕ} → a ∷ x ≡ b ∷ y → x ≡ y
 tails e = cc
-
--- what comes after equal fronts is equal
-pub cancel : (u x y : List ℕ) → u ++ x ≡ u ++ y → x ≡ y
-cancel [] x y e = e
-cancel (a ∷ u) x y e = cancel u x y (tails e)
 
 -- two ways to cut one list: the first front is the longer, or the second
 pub cuts : (x y u v : List ℕ) → x ++ y ≡ u ++ v → ((k : List ℕ) × (x ≡ u ++ k)) ⊎ ((c : ℕ) × (k : List ℕ) × (u ≡ x ++ c ∷ k) × (y ≡ c ∷ (k ++ v)))
@@ -86,9 +81,9 @@ module _ {L M : Language} (apart : Apart L M) where
   no_then u y lu shut none (u', v', lu', mv', e) = ⊎_elim (λ h. longer h.0 h.1) (λ h. shorter h.0 h.1 h.2 h.3) (cuts u y u' v' e)
     where
       longer : (k : List ℕ) → u ≡ u' ++ k → ⊥
-      longer [] p = none (subst M (sym (cancel u' y v' (ap (λ z. z ++ y) (sym (p ∙ append-nil u')) ∙ e))) mv')
+      longer [] p = none (subst M (sym (append_cancel_left u' y v' (ap (λ z. z ++ y) (sym (p ∙ append-nil u')) ∙ e))) mv')
       longer (c ∷ k) p =
-          let rest : (c ∷ k) ++ y ≡ v' = cancel u' ((c ∷ k) ++ y) v' (sym (append_assoc u' (c ∷ k) y) ∙ ap (λ z. z ++ y) (sym p) ∙ e) in
+          let rest : (c ∷ k) ++ y ≡ v' = append_cancel_left u' ((c ∷ k) ++ y) v' (sym (append_assoc u' (c ∷ k) y) ∙ ap (λ z. z ++ y) (sym p) ∙ e) in
           apart.never u' c k (k ++ y) lu' (subst L p lu) (subst M (sym rest) mv')
 
       shorter : (c : ℕ) (k : List ℕ) → u' ≡ u ++ c ∷ k → y ≡ c ∷ (k ++ v') → ⊥
@@ -103,7 +98,7 @@ module _ {L M : Language} (apart : Apart L M) where
       longer : (k : List ℕ) → front ≡ u' ++ k → ⊥
       longer [] p = none (subst L (sym (p ∙ append-nil u')) lu')
       longer (b ∷ k) p =
-          let rest : (b ∷ k) ++ y ≡ v' = cancel u' ((b ∷ k) ++ y) v' (sym (append_assoc u' (b ∷ k) y) ∙ ap (λ z. z ++ y) (sym p) ∙ e) in
+          let rest : (b ∷ k) ++ y ≡ v' = append_cancel_left u' ((b ∷ k) ++ y) v' (sym (append_assoc u' (b ∷ k) y) ∙ ap (λ z. z ++ y) (sym p) ∙ e) in
           let whole : front ++ c ∷ j ≡ u' ++ (b ∷ (k ++ c ∷ j)) = ap (λ z. z ++ c ∷ j) p ∙ append_assoc u' (b ∷ k) (c ∷ j) in
           apart.never u' b (k ++ c ∷ j) (k ++ y) lu' (subst L whole begun) (subst M (sym rest) mv')
 
@@ -165,9 +160,9 @@ then_apart {L} {M} {N} first second some = record { never = λ w c j y l l' n. g
     go c j y u v u' v' lu mv lu' mv' whole n = ⊎_elim (λ h. longer h.0 h.1) (λ h. shorter v mv h.0 h.1 h.2 h.3) (cuts u (v ++ c ∷ j) u' v' whole)
       where
         longer : (k : List ℕ) → u ≡ u' ++ k → ⊥
-        longer [] p = second.never v c j y mv (subst M (sym (cancel u' (v ++ c ∷ j) v' (ap (λ z. z ++ (v ++ c ∷ j)) (sym (p ∙ append-nil u')) ∙ whole))) mv') n
+        longer [] p = second.never v c j y mv (subst M (sym (append_cancel_left u' (v ++ c ∷ j) v' (ap (λ z. z ++ (v ++ c ∷ j)) (sym (p ∙ append-nil u')) ∙ whole))) mv') n
         longer (b ∷ k) p =
-            let rest : (b ∷ k) ++ (v ++ c ∷ j) ≡ v' = cancel u' ((b ∷ k) ++ (v ++ c ∷ j)) v' (sym (append_assoc u' (b ∷ k) (v ++ c ∷ j)) ∙ ap (λ z. z ++ (v ++ c ∷ j)) (sym p) ∙ whole) in
+            let rest : (b ∷ k) ++ (v ++ c ∷ j) ≡ v' = append_cancel_left u' ((b ∷ k) ++ (v ++ c ∷ j)) v' (sym (append_assoc u' (b ∷ k) (v ++ c ∷ j)) ∙ ap (λ z. z ++ (v ++ c ∷ j)) (sym p) ∙ whole) in
             first.never u' b k (k ++ (v ++ c ∷ j)) lu' (subst L p lu) (subst M (sym rest) mv')
 
         shorter : (v : List ℕ) → M v → (b : ℕ) (k : List ℕ) → u' ≡ u ++ b ∷ k → v ++ c ∷ j ≡ b ∷ (k ++ v') → ⊥

@@ -28,10 +28,6 @@ NextWord = Then (Just 88) StateWord
 abbrev UntilWord : Language
 UntilWord = Then StateWord (Then (Just 85) (Then StepsWord StateWord))
 
--- `true`, byte by byte
-abbrev pub TrueBytes : Language
-TrueBytes = Then (Just 116) (Then (Just 114) (Then (Just 117) (Just 101)))
-
 -- a negation is a formula
 negation_in : (w : List ℕ) → NegationWord w → StateWord w
 negation_in w (u, v, p, (f, l, q), e) = (negation f, l, cc)
@@ -69,10 +65,6 @@ atom_in w (f, h, e) = (f, atomic_in f h, e)
 true_in : (w : List ℕ) → TrueWord w → AtomWord w
 true_in w e = (truth, tt, e)
 
--- and so are its bytes
-bytes_in : (w : List ℕ) → TrueBytes w → TrueWord w
-bytes_in w (u, v, p, (u₁, v₁, p₁, (u₂, v₂, p₂, p₃, e₂), e₁), e) = cc
-
 -- a formula's text as a front with nothing behind it
 alone : (f : Formula) (h c : ℕ) (r : List ℕ) → h ≡ c → h ∷ r ≡ print f → print f ++ [] ≡ c ∷ r
 alone f h c r p e = append-nil (print f) ∙ sym e ∙ ap (λ z. z ∷ r) p
@@ -100,10 +92,6 @@ probability_picked h r p (f, l, e) =
 -- `t` picks `true`
 true_picked : (h : ℕ) (r : List ℕ) → h ≡ 116 → AtomWord (h ∷ r) → TrueWord (h ∷ r)
 true_picked h r p (f, l, e) = e ∙ ap print (is_truth f [] r (atomic_in f l) (alone f h 116 r p e))
-
--- which has no other bytes
-bytes_picked : (h : ℕ) (r : List ℕ) → TrueWord (h ∷ r) → TrueBytes (h ∷ r)
-bytes_picked h r e = (116 ∷ [], _, refl, (114 ∷ [], _, refl, (117 ∷ [], 101 ∷ [], refl, refl, refl), refl), e)
 
 -- `X` picks the nexts
 next_picked : (h : ℕ) (r : List ℕ) → h ≡ 88 → PathWord (h ∷ r) → NextWord (h ∷ r)
@@ -256,28 +244,6 @@ module _ (t : List ℕ) (a : ℕ) (l : a < length t) where
   true_refused {p} is s = widen_refused TrueWord AtomWord t a p true_in (λ _. atom_some) (λ r _. true_picked _ r is) s
 
 module _ (t : List ℕ) (a : ℕ) where
-  -- `true`, byte by byte
-  spelt_refused : {p : ℕ} → Refused TrueBytes t a p → Refused TrueWord t a p
-  spelt_refused {p} s = widen_refused TrueBytes TrueWord t a p bytes_in (λ _ e. omega (arith, ap length e)) (λ r _. bytes_picked _ r) s
-
-  -- where its first byte is refused, so is it
-  pub first_byte_refused : {p : ℕ} → Refused (Just 116) t a p → Refused TrueWord t a p
-  first_byte_refused s = spelt_refused (first_refused (free_apart (free_just 116)) _ (114 ∷ [], _, refl, (117 ∷ [], 101 ∷ [], refl, refl, refl), refl) s)
-
-  module _ {b : ℕ} (t_read : Read (Just 116) (116 ∷ []) t a b) where
-    -- where its second byte is refused
-    pub second_byte_refused : {p : ℕ} → Refused (Just 114) t b p → Refused TrueWord t a p
-    second_byte_refused s = spelt_refused (then_refused (free_apart (free_just 116)) t_read (first_refused (free_apart (free_just 114)) _ (117 ∷ [], 101 ∷ [], refl, refl, refl) s))
-
-    module _ {c : ℕ} (r_read : Read (Just 114) (114 ∷ []) t b c) where
-      -- where its third byte is refused
-      pub third_byte_refused : {p : ℕ} → Refused (Just 117) t c p → Refused TrueWord t a p
-      third_byte_refused s = spelt_refused (then_refused (free_apart (free_just 116)) t_read (then_refused (free_apart (free_just 114)) r_read (first_refused (free_apart (free_just 117)) (101 ∷ []) refl s)))
-
-      -- where its last byte is refused
-      pub last_byte_refused : {d p : ℕ} → Read (Just 117) (117 ∷ []) t c d → Refused (Just 101) t d p → Refused TrueWord t a p
-      last_byte_refused u_read s = spelt_refused (then_refused (free_apart (free_just 116)) t_read (then_refused (free_apart (free_just 114)) r_read (then_refused (free_apart (free_just 117)) u_read s)))
-
   -- what is no compound is refused as an atom is
   pub atom_refused : {p : ℕ} → (a < length t → get_or t a 0 ≡ 33 → ⊥) → (a < length t → get_or t a 0 ≡ 40 → ⊥) → (a < length t → get_or t a 0 ≡ 80 → ⊥) → Refused AtomWord t a p → Refused StateWord t a p
   atom_refused {p} n₁ n₂ n₃ s = widen_refused AtomWord StateWord t a p atom_in (λ _. state_some) (λ r l. atom_picked _ r (n₁ l) (n₂ l) (n₃ l)) s

@@ -2,14 +2,14 @@
 use Rattle.std.proofs.Common.{◌≡◌, ℕ, ◌^◌, ◌<◌, ◌≤◌, cond, eqb, List, [], ◌∷◌, ◌++◌, length, get_or, Some, None, decimal, Option, sym, refl, ap, ◌∙◌, subst, ⊎_elim, append_assoc, append-nil, arith, lit≤, length-append}
 use Rattle.std.specs.Int.{IsInRange}
 use Rattle.std.specs.Str.Parse.{digits_value, AllDigits}
-use Rattle.std.proofs.lemmas.List.{get_or_at}
+use Rattle.std.proofs.lemmas.List.{append_cancel_left, get_or_at}
 use Rattle.std.proofs.lemmas.Fmt.{decimal_nonempty, digits_decimal, decimal_injective}
 use Rattle.std.proofs.lemmas.Str.Parse.{IsNumeralModel, numerals_by_value, tells_digits, digit_at}
 use Rattle.theory.specs.Formulas.{Comparison, below, at_most, above, at_least}
 use Rattle.grammar.specs.Words.{Language}
 use Rattle.grammar.specs.Spelling.{sign, print_bound, FewDigits}
 use Rattle.grammar.specs.Languages.{SignWord, NumberWord, BoundWord, print_steps, FewSteps, StepsWord}
-use Rattle.grammar.proofs.Chains.{Then, Apart, heads, tails, cancel, cuts, then_apart}
+use Rattle.grammar.proofs.Chains.{Then, Apart, heads, tails, cuts, then_apart}
 
 -- a language whose words have at most one cut before a word of another
 pub apart_same : {L M : Language} → Apart L M → (u u' v v' : List ℕ) → L u → L u' → M v → M v' → u ++ v ≡ u' ++ v' → u ≡ u'
@@ -18,7 +18,7 @@ apart_same {L} {M} apart u u' v v' lu lu' m m' e = ⊎_elim (λ h. longer h.0 h.
     longer : (k : List ℕ) → u ≡ u' ++ k → u ≡ u'
     longer [] p = p ∙ append-nil u'
     longer (b ∷ k) p =
-        let rest : (b ∷ k) ++ v ≡ v' = cancel u' ((b ∷ k) ++ v) v' (sym (append_assoc u' (b ∷ k) v) ∙ ap (λ z. z ++ v) (sym p) ∙ e) in
+        let rest : (b ∷ k) ++ v ≡ v' = append_cancel_left u' ((b ∷ k) ++ v) v' (sym (append_assoc u' (b ∷ k) v) ∙ ap (λ z. z ++ v) (sym p) ∙ e) in
         absurd (apart.never u' b k (k ++ v) lu' (subst L p lu) (subst M (sym rest) m'))
 
 -- what may follow a language may follow a part of it
@@ -127,7 +127,7 @@ unsign_sign at_least = refl
 pub bound_same : (c c' : Comparison) (b b' : ℕ) → FewDigits b → FewDigits b' → print_bound c b ≡ print_bound c' b' → (c ≡ c') × (b ≡ b')
 bound_same c c' b b' h h' e =
     let signs : sign c ≡ sign c' = apart_same sign_then_number (sign c) (sign c') (decimal b) (decimal b') (c, tt, refl) (c', tt, refl) (b, h, refl) (b', h', refl) e in
-    let numbers : decimal b ≡ decimal b' = cancel (sign c) _ _ (e ∙ ap (λ z. z ++ decimal b') (sym signs)) in
+    let numbers : decimal b ≡ decimal b' = append_cancel_left (sign c) _ _ (e ∙ ap (λ z. z ++ decimal b') (sym signs)) in
     (sym (unsign_sign c) ∙ ap unsign signs ∙ unsign_sign c', decimal_injective b b' (few_fits b h) (few_fits b' h') numbers)
 
 -- what begins with no digit and not with `<` may follow steps

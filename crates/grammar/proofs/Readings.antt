@@ -1,10 +1,11 @@
 -- A text has at most one reading.
 use Rattle.std.proofs.Common.{◌≡◌, ℕ, ◌+◌, ◌<◌, List, [], ◌∷◌, ◌++◌, Some, None, Option, sym, refl, ap, ◌∙◌, subst, append_assoc, arith}
+use Rattle.std.proofs.lemmas.List.{append_cancel_left}
 use Rattle.theory.specs.Formulas.{Comparison, Formula, PathFormula, truth, label, negation, conjunction, probability, next, until_within, until}
 use Rattle.grammar.specs.Words.{Language}
 use Rattle.grammar.specs.Spelling.{print, print_path, print_bound, FewDigits, Spelled, SpelledPath, OneReading}
 use Rattle.grammar.specs.Languages.{StateWord, PathWord, FewSteps, print_steps}
-use Rattle.grammar.proofs.Chains.{Free, heads, tails, cancel}
+use Rattle.grammar.proofs.Chains.{Free, heads, tails}
 use Rattle.grammar.proofs.Parts.{NotDigit, apart_same, bound_apart, bound_same, steps_apart, steps_same}
 
 -- an until with the steps that it has, if any
@@ -94,7 +95,7 @@ is_probability (probability c b p) y r e = (c, b, p, refl)
 
 -- what comes after equal words is equal
 after : (u v x y : List ℕ) → u ≡ v → u ++ x ≡ v ++ y → x ≡ y
-after u v x y p e = cancel u x y (e ∙ ap (λ z. z ++ y) (sym p))
+after u v x y p e = append_cancel_left u x y (e ∙ ap (λ z. z ++ y) (sym p))
 
 -- the formula f is the only one whose text a text begins with, if that of f begins it
 abbrev Only : Formula → Type 0

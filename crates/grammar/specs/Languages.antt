@@ -4,9 +4,13 @@ use Rattle.theory.specs.Formulas.{Comparison, at_most, Formula, truth, label, ne
 use Rattle.grammar.specs.Words.{Language, Words}
 use Rattle.grammar.specs.Spelling.{sign, print_bound, print, print_path, FewDigits, Spelled, SpelledPath}
 
--- the texts of one byte
+-- one text alone
+abbrev pub Only : List ℕ → Language
+Only text w = w ≡ text
+
+-- the text of one byte
 abbrev pub Just : ℕ → Language
-Just c w = w ≡ c ∷ []
+Just c = Only (c ∷ [])
 
 -- the texts of comparisons
 abbrev pub SignWord : Language
@@ -36,7 +40,7 @@ StepsWord = Words FewSteps print_steps
 
 -- the text `true`
 abbrev pub TrueWord : Language
-TrueWord w = w ≡ print truth
+TrueWord = Only (print truth)
 
 -- a formula with no parts
 abbrev pub Atomic : Formula → Type 0

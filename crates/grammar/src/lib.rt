@@ -3,9 +3,7 @@
 
 ghost use Rattle.grammar.specs.Spelling.{OneReading};
 
-// a text has at most one reading
-pub fn formulas_have_one_reading() -> u8
+// A text has at most one reading: a theorem, which the call does nothing but state.
+pub fn formulas_have_one_reading()
     ensures { OneReading }
-{
-    0
-}
+{}

@@ -7,33 +7,29 @@ use std::io::Write;
 use std::process::ExitCode;
 use std::{env, fs, io};
 
-// Reads the file that the command line names, and prints the reply: true where nothing is refused or wrong.
-fn run(rt: &HostRuntime) -> io::Result<bool> {
+// Reads the file that the command line names, and prints the reply: a success where nothing is refused or wrong.
+fn run(rt: &HostRuntime) -> io::Result<ExitCode> {
     let args: Vec<String> = env::args(rt)?.skip(1).collect(rt.alloc())?;
-    let file = match path(args.as_slice()) {
-        Some(path) => fs::read(rt, path).ok(),
-        None => None,
-    };
-    match reply(rt.alloc(), args.as_slice(), &file)? {
+    let file = path(args.as_slice()).and_then(|path| fs::read(rt, path).ok());
+    match reply(rt.alloc(), args.as_slice(), file.as_deref())? {
         Reply::Printed(text) => {
             rt.stdout().write_all(text.as_slice())?;
-            Ok(true)
+            Ok(ExitCode::SUCCESS)
         }
         Reply::Refused(text) => {
             rt.print(text.as_str())?;
-            Ok(false)
+            Ok(ExitCode::FAILURE)
         }
         Reply::Wrong(text) => {
             rt.eprint(text.as_str())?;
-            Ok(false)
+            Ok(ExitCode::FAILURE)
         }
     }
 }
 
 fn main(rt: HostRuntime) -> io::Result<ExitCode> {
     match run(&rt) {
-        Ok(true) => Ok(ExitCode::SUCCESS),
-        Ok(false) => Ok(ExitCode::FAILURE),
+        Ok(status) => Ok(status),
         Err(error) => {
             eprintln!(rt; "kavzhubo: {error}")?;
             Ok(ExitCode::FAILURE)

@@ -1,12 +1,12 @@
 ghost use Rattle.std.specs.Prelude.{◌≡◌};
 ghost use Rattle.ladder.specs.Refusals.{fault_number};
 
-// Why a ladder is refused: its rungs, its denominator or its weight is out of range.
+// Why a ladder is refused: its rungs, its denominator or its weight is out of range. Each has its fixed number.
 #[derive(Clone, Copy, PartialEq, Eq, Debug)]
 pub enum LadderFault {
-    Rungs,
-    Denominator,
-    Weight,
+    Rungs = 40,
+    Denominator = 41,
+    Weight = 42,
 }
 
 impl LadderFault {
@@ -14,10 +14,6 @@ impl LadderFault {
     pub fn number(&self) -> u8
         ensures { result ≡ fault_number self.now }
     {
-        match *self {
-            LadderFault::Rungs => 40,
-            LadderFault::Denominator => 41,
-            LadderFault::Weight => 42,
-        }
+        *self as u8
     }
 }

@@ -8,13 +8,13 @@ impl Ladder {
     pub fn new(rungs: usize, denominator: u32, weight: u32) -> Result<Ladder, LadderFault>
         ensures { Made rungs denominator weight result }
     {
-        if rungs < 1 || rungs > 511 {
+        if !(1..=511).contains(&rungs) {
             return Err(LadderFault::Rungs);
         }
-        if denominator < 1 || denominator > 1_000_000 {
+        if !(1..=1_000_000).contains(&denominator) {
             return Err(LadderFault::Denominator);
         }
-        if weight < 1 || weight > denominator {
+        if !(1..=denominator).contains(&weight) {
             return Err(LadderFault::Weight);
         }
         Ok(Ladder {

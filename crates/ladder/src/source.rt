@@ -7,6 +7,7 @@ use crate::ladder::Ladder;
 use model::branch::Branch;
 use model::labels::Labels;
 use model::source::Source;
+use std::cmp::Ordering;
 
 impl Ladder {
     // One branch of a climb: back to 0 with what the weight leaves, if it leaves any, and on to the next state.
@@ -23,10 +24,7 @@ impl Ladder {
                 target: state + 1,
                 weight: self.weight,
             },
-            _ => Branch {
-                target: 0,
-                weight: 0,
-            },
+            _ => Branch::default(),
         }
     }
 }
@@ -46,48 +44,39 @@ impl Source for Ladder {
     }
 
     fn labels(&self, state: usize) -> Labels {
-        let mut letters = [false; 16];
+        let mut labels = Labels::default();
         if state == self.rungs {
-            letters[0] = true;
+            labels.letters[0] = true;
         } else if state == 0 {
-            letters[1] = true;
+            labels.letters[1] = true;
         }
-        Labels { letters }
+        labels
     }
 
     fn choices(&self, state: usize) -> usize {
-        if state < self.rungs {
-            2
-        } else if state == self.rungs {
-            1
-        } else {
-            0
+        match state.cmp(&self.rungs) {
+            Ordering::Less => 2,
+            Ordering::Equal => 1,
+            Ordering::Greater => 0,
         }
     }
 
     fn branches(&self, state: usize, choice: usize) -> usize {
-        if state < self.rungs && choice == 1 {
-            if self.weight < self.denominator { 2 } else { 1 }
-        } else if state <= self.rungs && choice == 0 {
-            1
-        } else {
-            0
+        match (state.cmp(&self.rungs), choice) {
+            (Ordering::Less, 1) if self.weight < self.denominator => 2,
+            (Ordering::Less, 0 | 1) | (Ordering::Equal, 0) => 1,
+            _ => 0,
         }
     }
 
     fn branch(&self, state: usize, choice: usize, index: usize) -> Branch {
-        if state < self.rungs && choice == 1 {
-            self.climb(state, index)
-        } else if state <= self.rungs && choice == 0 && index == 0 {
-            Branch {
+        match (state.cmp(&self.rungs), choice, index) {
+            (Ordering::Less, 1, _) => self.climb(state, index),
+            (Ordering::Less | Ordering::Equal, 0, 0) => Branch {
                 target: state,
                 weight: self.denominator,
-            }
-        } else {
-            Branch {
-                target: 0,
-                weight: 0,
-            }
+            },
+            _ => Branch::default(),
         }
     }
 }

@@ -1,10 +1,10 @@
 ghost use Rattle.std.specs.Prelude.{◌≡◌};
 ghost use Rattle.layers.specs.HoldAnswers.{fault_number};
 
-// Why a state is not held: there is no such state.
+// Why a state is not held: there is no such state. The fault has its fixed number.
 #[derive(Clone, Copy, PartialEq, Eq, Debug)]
 pub enum HoldFault {
-    Held,
+    Held = 43,
 }
 
 impl HoldFault {
@@ -12,8 +12,6 @@ impl HoldFault {
     pub fn number(&self) -> u8
         ensures { result ≡ fault_number self.now }
     {
-        match *self {
-            HoldFault::Held => 43,
-        }
+        *self as u8
     }
 }

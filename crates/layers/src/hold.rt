@@ -1,6 +1,5 @@
 ghost use Rattle.std.specs.Prelude.{◌≡◌, false, replicate, slice_index_or};
-ghost use Rattle.model.specs.Mdp.{to};
-ghost use Rattle.layers.specs.Holds.{held_model, is_held};
+ghost use Rattle.layers.specs.Holds.{held_model, back};
 ghost use Rattle.model.specs.HoldLaws.{hold_lawful};
 ghost use Rattle.layers.specs.HoldAnswers.{Ran};
 
@@ -15,6 +14,7 @@ use model::source::Source;
 #[derive(Drop)]
 pub struct Hold<S> {
     below: S,
+    // one flag for each state that a model can have: a layer has no heap
     held: [bool; 512],
 }
 
@@ -50,21 +50,14 @@ impl<S: Source> Hold<S> {
         &self.below
     }
 
-    // Is there such a state, and is it held?
-    fn is_held(&self, state: usize) -> bool
-        ensures { result ≡ is_held (S.Source.model self.now.below) self.now.held state }
+    // The one branch of a held state: back to itself with the whole denominator. None where no such state is held.
+    fn back(&self, state: usize) -> Option<Branch>
+        ensures { result ≡ back (S.Source.model self.now.below) self.now.held state }
     {
-        state < self.below.states() && self.held[state]
-    }
-
-    // The one branch of a held state: back to itself with the whole denominator.
-    fn back(&self, state: usize) -> Branch
-        ensures { result ≡ to state (S.Source.model self.now.below).denominator }
-    {
-        Branch {
+        (state < self.below.states() && self.held[state]).then(|| Branch {
             target: state,
             weight: self.below.denominator(),
-        }
+        })
     }
 }
 
@@ -87,47 +80,39 @@ impl<S: Source> Source for Hold<S> {
     }
 
     fn choices(&self, state: usize) -> usize {
-        if self.is_held(state) {
-            1
-        } else {
-            self.below.choices(state)
+        match self.back(state) {
+            None => self.below.choices(state),
+            Some(_) => 1,
         }
     }
 
     fn branches(&self, state: usize, choice: usize) -> usize {
-        if !self.is_held(state) {
-            self.below.branches(state, choice)
-        } else if choice == 0 {
-            1
-        } else {
-            0
+        match (self.back(state), choice) {
+            (None, _) => self.below.branches(state, choice),
+            (Some(_), 0) => 1,
+            (Some(_), _) => 0,
         }
     }
 
     fn branch(&self, state: usize, choice: usize, index: usize) -> Branch {
-        if !self.is_held(state) {
-            self.below.branch(state, choice, index)
-        } else if choice == 0 && index == 0 {
-            self.back(state)
-        } else {
-            Branch {
-                target: 0,
-                weight: 0,
-            }
+        match (self.back(state), choice, index) {
+            (None, _, _) => self.below.branch(state, choice, index),
+            (Some(back), 0, 0) => back,
+            (Some(_), _, _) => Branch::default(),
         }
     }
 
     fn read_row(&self, state: usize, choice: usize, into: &mut [Branch]) -> usize {
-        if !self.is_held(state) {
-            return self.below.read_row(state, choice, into);
+        match (self.back(state), choice) {
+            (None, _) => self.below.read_row(state, choice, into),
+            (Some(back), 0) => {
+                if let [first, ..] = into {
+                    *first = back;
+                }
+                1
+            }
+            (Some(_), _) => 0,
         }
-        if choice > 0 {
-            return 0;
-        }
-        if into.len() > 0 {
-            into[0] = self.back(state);
-        }
-        1
     }
 
     fn lend_row<'b>(
@@ -136,7 +121,7 @@ impl<S: Source> Source for Hold<S> {
         choice: usize,
         buffer: &'b mut [Branch],
     ) -> &'b [Branch] {
-        if !self.is_held(state) {
+        if self.back(state).is_none() {
             return self.below.lend_row(state, choice, buffer);
         }
         let count = self.read_row(state, choice, buffer);

@@ -43,8 +43,9 @@ pub trait Source {
         ensures written { into.new ≡ over (row (model self.now) state choice) into.old }
     {
         let count = self.branches(state, choice);
-        for i in 0..count.min(into.len()) {
-            into[i] = self.branch(state, choice, i);
+        let room = count.min(into.len());
+        for (i, branch) in into[..room].iter_mut().enumerate() {
+            *branch = self.branch(state, choice, i);
         }
         count
     }

@@ -1,9 +1,8 @@
 -- Pairs keep the laws of a rule.
 use Rattle.std.specs.Prelude.{◌≡◌, ℕ, true, ◌⊎◌, List, [], ◌∷◌, ◌++◌}
 use Rattle.std.proofs.Common.{inl, inr, arith}
-use Rattle.std.proofs.lemmas.Bool.{cond-true, cond-false}
+use Rattle.std.proofs.lemmas.Bool.{cond-true, cond-false, cases_Bool, both_ways}
 use Rattle.theory.specs.Rules.{RuleLaws}
-use Rattle.theory.proofs.Lists.{which, true_not_false}
 use Rattle.pairs.specs.Pairs.{at_least, lesser_of, greatest, least_from, least}
 
 -- a pair is at least itself
@@ -24,12 +23,12 @@ antisymmetric a b p q = grind arith
 
 -- of two pairs that are at least two others, the lesser is at least the lesser of those
 lesser_keeps : (a b c d : ℕ × ℕ) → at_least a b ≡ true → at_least c d ≡ true → at_least (lesser_of a c) (lesser_of b d) ≡ true
-lesser_keeps a b c d p q = elim (which (at_least a c)) [
-  | inl e ↦ rw (cond-true (at_least a c) c a e) (elim (which (at_least b d)) [
+lesser_keeps a b c d p q = elim (cases_Bool (at_least a c)) [
+  | inl e ↦ rw (cond-true (at_least a c) c a e) (elim (cases_Bool (at_least b d)) [
     | inl f ↦ rw (cond-true (at_least b d) d b f) q
-    | inr f ↦ rw (cond-false (at_least b d) d b f) (elim (complete b d) [ inl h ↦ true_not_false (at_least b d) h f | inr h ↦ transitive c d b q h ])
+    | inr f ↦ rw (cond-false (at_least b d) d b f) (elim (complete b d) [ inl h ↦ absurd (both_ways (at_least b d) f h) | inr h ↦ transitive c d b q h ])
   ])
-  | inr e ↦ rw (cond-false (at_least a c) c a e) (elim (which (at_least b d)) [
+  | inr e ↦ rw (cond-false (at_least a c) c a e) (elim (cases_Bool (at_least b d)) [
     | inl f ↦ rw (cond-true (at_least b d) d b f) (transitive a b d p f)
     | inr f ↦ rw (cond-false (at_least b d) d b f) p
   ])

@@ -1,5 +1,4 @@
-ghost use Rattle.std.specs.Prelude.{◌≡◌};
-ghost use Rattle.pairs.specs.Pairs.{at_least, least, lesser_of};
+ghost use Rattle.pairs.specs.Pairs.{at_least, least};
 ghost use Rattle.pairs.specs.Laws.{pairs_lawful};
 
 use model::branch::Branch;
@@ -20,21 +19,13 @@ impl Rule for Pairs {
     ghost lawful = { λ x. pairs_lawful };
 
     fn prefers(&self, a: (u32, u32), b: (u32, u32)) -> bool {
-        a.0 > b.0 || (a.0 == b.0 && a.1 >= b.1)
+        a >= b
     }
 
     fn mix(&self, _denominator: u32, row: &[Branch], values: &[(u32, u32)]) -> (u32, u32) {
-        let mut least = (u32::MAX, u32::MAX);
-        for branch in row {
-            least = lesser(least, values[branch.target]);
-        }
-        least
+        row.iter().fold(
+            (u32::MAX, u32::MAX),
+            |least, branch| least.min(values[branch.target]),
+        )
     }
-}
-
-// The lesser of two pairs.
-fn lesser(a: (u32, u32), b: (u32, u32)) -> (u32, u32)
-    ensures { result ≡ lesser_of a b }
-{
-    if Pairs.prefers(a, b) { b } else { a }
 }

@@ -6,9 +6,9 @@ use rounds::settle::settle;
 use rules::fault::PartFault;
 use rules::marks::Marks;
 use rules::part::Part;
-use rules::parts_down::PartsDown;
-use rules::parts_up::PartsUp;
+use rules::parts::Parts;
 use rules::preference::Preference;
+use rules::rounding::Rounding;
 use std::process::Abort;
 use std::test::Fail;
 use tables::tables::Tables;
@@ -35,21 +35,22 @@ fn table(rt: &HostRuntime, text: &[u8]) -> Result<Tables, Fail> {
 // Parts of these units.
 fn three(units: [u32; 3]) -> Result<[Part; 3], Fail> {
     Ok([
-        Part::new(units[0])?,
-        Part::new(units[1])?,
-        Part::new(units[2])?,
+        Part::try_from(units[0])?,
+        Part::try_from(units[1])?,
+        Part::try_from(units[2])?,
     ])
 }
 
 // The units of these parts.
 fn units(parts: [Part; 3]) -> [u32; 3] {
-    [parts[0].units(), parts[1].units(), parts[2].units()]
+    parts.map(Part::units)
 }
 
 #[test]
 fn greater_parts_of_retries(rt: HostRuntime) -> Result<(), Fail> {
     let source = table(&rt, RETRY)?;
-    let rule = PartsDown {
+    let rule = Parts {
+        rounding: Rounding::Down,
         preference: Preference::Greater,
     };
     let mut values = three([0, WHOLE, 0])?;
@@ -70,7 +71,8 @@ fn greater_parts_of_retries(rt: HostRuntime) -> Result<(), Fail> {
 #[test]
 fn lesser_parts_of_retries(rt: HostRuntime) -> Result<(), Fail> {
     let source = table(&rt, RETRY)?;
-    let rule = PartsUp {
+    let rule = Parts {
+        rounding: Rounding::Up,
         preference: Preference::Lesser,
     };
     let mut values = three([0, WHOLE, 0])?;
@@ -84,13 +86,15 @@ fn lesser_parts_of_retries(rt: HostRuntime) -> Result<(), Fail> {
 // The units of state 0 of THIRDS after so many rounds, rounded down and rounded up.
 fn thirds(rt: &HostRuntime, count: u64) -> Result<(u32, u32), Fail> {
     let source = table(rt, THIRDS)?;
-    let down = PartsDown {
+    let down = Parts {
+        rounding: Rounding::Down,
         preference: Preference::Lesser,
     };
-    let up = PartsUp {
+    let up = Parts {
+        rounding: Rounding::Up,
         preference: Preference::Greater,
     };
-    let start = [Part::new(0)?, Part::new(WHOLE)?];
+    let start = [Part::try_from(0)?, Part::try_from(WHOLE)?];
     let mut lower = start;
     let mut upper = start;
     let mut spare = start;
@@ -209,7 +213,7 @@ fn edges_of_rounds(rt: HostRuntime) -> Result<(), Fail> {
 
 // The number that a part of so many units is refused with, or 0.
 fn part_refusal(units: u32) -> u8 {
-    match Part::new(units) {
+    match Part::try_from(units) {
         Ok(_) => 0,
         Err(fault) => fault.number(),
     }

@@ -1,16 +1,19 @@
--- How many choices and branches a lawful model has, counted state by state.
-use Rattle.std.proofs.Common.{◌≡◌, ℕ, zero, suc, ◌+◌, ◌*◌, ◌<◌, ◌≤◌, List, [], ◌∷◌, ◌++◌, map, length, get_or, take, drop, sym, refl, ap, ◌∙◌, append_assoc, append-nil, arith, length-append, take-append-drop}
-use Rattle.std.specs.List.{range_with_len}
-use Rattle.std.proofs.lemmas.List.FromFn.{map-range_with_len_more}
-use Rattle.std.proofs.lemmas.List.{take_more}
-use Rattle.model.specs.Mdp.{Mdp, Row, Ascends, LawfulRow, Each, Lawful}
-use Rattle.text.specs.Contents.{State, all_choices, all_branches}
+-- How many choices and branches a lawful model has, as sums over its states.
+use Rattle.std.proofs.Common.{◌≡◌, ℕ, ◌+◌, ◌*◌, ◌<◌, ◌≤◌, ◌^◌, List, [], ◌∷◌, ◌++◌, map, length, sym, refl, ap, ◌∙◌, append_assoc, arith, length-append}
+use Rattle.std.specs.List.{range_with_len, sum_by}
+use Rattle.std.proofs.lemmas.List.FromFn.{fill_by_all, length-range_with_len}
+use Rattle.std.proofs.lemmas.List.Elements.{All-from_get_or}
+use Rattle.std.proofs.lemmas.List.Sums.{sum_by-cons, sum_by-le}
+use Rattle.std.specs.declared.iter.Map.{Map}
+use Rattle.std.specs.declared.ops.Range.{Range}
+use Rattle.std.specs.Fn.{Called}
+use Rattle.std.specs.Iterator.Adapters.{map_source, map_callee}
+use Rattle.std.proofs.iter.Yields.{nat_range_steps}
+use Rattle.std.proofs.lemmas.Iterator.{YieldsList, maps, YieldsList-from_range, YieldsList-from_map}
+use denote.Param.Members.{Mut}
+use Rattle.model.specs.Mdp.{Mdp, Row, row, Ascends, LawfulRow, Each, Lawful}
+use Rattle.text.specs.Contents.{all_choices, all_branches}
 use Rattle.printing.specs.Layouts.{state_of}
-
--- the choices of states one after another
-all_choices_append : (a b : List State) → all_choices (a ++ b) ≡ all_choices a ++ all_choices b
-all_choices_append [] b = refl
-all_choices_append (s ∷ ss) b = ap (λ t. s.choices ++ t) (all_choices_append ss b) ∙ sym (append_assoc s.choices (all_choices ss) (all_choices b))
 
 -- the branches of rows one after another
 all_branches_append : (a b : List Row) → all_branches (a ++ b) ≡ all_branches a ++ all_branches b
@@ -23,71 +26,70 @@ row_short n low [] up h = omega arith
 row_short n low (b ∷ bs) up h = let rest = row_short n (b.target + 1) bs up.3 (omega arith) in omega arith
 
 -- so lawful rows have at most 512 branches each
-pub rows_short : (n d : ℕ) (rs : List Row) → n ≤ 512 → Each (LawfulRow n d) rs → length (all_branches rs) ≤ 512 * length rs
+rows_short : (n d : ℕ) (rs : List Row) → n ≤ 512 → Each (LawfulRow n d) rs → length (all_branches rs) ≤ 512 * length rs
 rows_short n d [] h each = omega arith
 rows_short n d (r ∷ rs) h each =
     let one = row_short n 0 r each.0.ascends (omega arith) in
     let rest = rows_short n d rs h each.1 in
     simp length-append (omega arith)
 
+-- what a map over the numbers below n yields, where the closure computes h
+pub over_range : {F : Type 0} (g : Mut F (ℕ × Unit {0}) ℕ) (h : ℕ → ℕ) (n : ℕ) {end : ℕ} {s : Map (Range ℕ) F} {f : F} → map_source s ≡ record { start = 0; end = end } → end ≡ n → map_callee s ≡ f → ((x r : ℕ) (q : F) → Called g f (x, tt) r q → (q ≡ f) × (r ≡ h x)) → YieldsList (maps nat_range_steps g) (λ r. r) s (map h (range_with_len 0 n))
+over_range g h n {end} source all callee calls = YieldsList-from_map g h (YieldsList-from_range 0 end n source (omega (arith, all))) callee calls
+
+-- n terms of at most `most` each
+sum_short : (f : ℕ → ℕ) (most n : ℕ) → ((k : ℕ) → f k ≤ most) → sum_by f (range_with_len 0 n) ≤ n * most
+sum_short f most n each =
+    let ns = range_with_len 0 n in
+    omega (arith, sum_by-le f most ns (All-from_get_or (λ k. f k ≤ most) ns 0 (λ i _. each _)), ap (λ k. k * most) (length-range_with_len 0 n))
+
+-- the branches of rows that a function of the number gives
+rows_counted : (f : ℕ → Row) (ns : List ℕ) → length (all_branches (map f ns)) ≡ sum_by (λ k. length (f k)) ns
+rows_counted f [] = refl
+rows_counted f (k ∷ ns) = simp (length-append, rows_counted f ns, sum_by-cons)
+
 module _ (m : Mdp) where
-  -- the choices of the first k states
-  abbrev pub choices_to : ℕ → List Row
-  choices_to k = all_choices (map (state_of m) (range_with_len 0 k))
+  -- how many choices a state has
+  abbrev pub choices_at : ℕ → ℕ
+  choices_at s = length (m.choices s)
 
-  -- those of one state more
-  to_more : (k : ℕ) → choices_to (k + 1) ≡ choices_to k ++ m.choices k
-  to_more k =
-      ap all_choices (map-range_with_len_more (state_of m) 0 k k (omega arith)) ∙ all_choices_append (map (state_of m) (range_with_len 0 k)) (state_of m k ∷ [])
-      ∙ ap (λ t. choices_to k ++ t) (append-nil (m.choices k))
+  -- and how many branches those have
+  abbrev pub branches_at : ℕ → ℕ
+  branches_at s = length (all_branches (m.choices s))
 
-  -- one state more has so many choices more
-  pub choices_more : (k : ℕ) → length (choices_to (k + 1)) ≡ length (choices_to k) + length (m.choices k)
-  choices_more k = ap length (to_more k) ∙ length-append (choices_to k) (m.choices k)
+  -- how many branches a choice has
+  abbrev pub branches_of : ℕ → ℕ → ℕ
+  branches_of s k = length (row m s k)
 
-  -- and so many branches more
-  pub branches_more : (k : ℕ) → length (all_branches (choices_to (k + 1))) ≡ length (all_branches (choices_to k)) + length (all_branches (m.choices k))
-  branches_more k =
-      ap (λ rs. length (all_branches rs)) (to_more k) ∙ ap length (all_branches_append (choices_to k) (m.choices k)) ∙ length-append (all_branches (choices_to k)) (all_branches (m.choices k))
+  -- the choices of several states
+  pub choices_counted : (ns : List ℕ) → length (all_choices (map (state_of m) ns)) ≡ sum_by choices_at ns
+  choices_counted [] = refl
+  choices_counted (s ∷ ns) = simp (length-append, choices_counted ns, sum_by-cons)
 
-  -- k states of a lawful model have at most 2,048 choices each
-  few_choices : Lawful m → (a k : ℕ) → length (all_choices (map (state_of m) (range_with_len a k))) ≤ 2048 * k
-  few_choices l a zero = omega arith
-  few_choices l a (suc k) =
-      let one = l.few_choices a in
-      let rest = few_choices l (a + 1) k in
-      simp length-append (omega arith)
+  -- the branches of several states
+  pub branches_counted : (ns : List ℕ) → length (all_branches (all_choices (map (state_of m) ns))) ≡ sum_by branches_at ns
+  branches_counted [] = refl
+  branches_counted (s ∷ ns) = simp (all_branches_append, length-append, branches_counted ns, sum_by-cons)
 
-  -- and at most 1,048,576 branches each
-  few_branches : Lawful m → (a k : ℕ) → length (all_branches (all_choices (map (state_of m) (range_with_len a k)))) ≤ 1048576 * k
-  few_branches l a zero = omega arith
-  few_branches l a (suc k) =
-      let one = l.few_choices a in
-      let each = rows_short m.states m.denominator (m.choices a) l.few_states (l.rows a) in
-      let rest = few_branches l (a + 1) k in
-      let later = all_choices (map (state_of m) (range_with_len (a + 1) k)) in
-      let split : length (all_branches (m.choices a ++ later)) ≡ length (all_branches (m.choices a)) + length (all_branches later) = ap length (all_branches_append (m.choices a) later) ∙ length-append (all_branches (m.choices a)) (all_branches later) in
-      omega (arith, split)
+  -- the branches of the choices of a state
+  pub state_counted : (s : ℕ) → branches_at s ≡ sum_by (branches_of s) (range_with_len 0 (choices_at s))
+  state_counted s =
+      ap (λ rs. length (all_branches rs)) (fill_by_all (row m s) (m.choices s) (choices_at s) [] refl (λ k h. refl)) ∙ rows_counted (row m s) (range_with_len 0 (choices_at s))
 
-  -- so both numbers are small
-  pub choices_small : Lawful m → (k : ℕ) → k ≤ m.states → length (choices_to k) ≤ 1048576
-  choices_small l k h = let few = few_choices l 0 k in let n = l.few_states in omega arith
+  module _ (l : Lawful m) where
+    -- a state of a lawful model has at most 512 branches for each of 2,048 choices
+    branches_few : (s : ℕ) → branches_at s ≤ 1048576
+    branches_few s =
+        let each = rows_short m.states m.denominator (m.choices s) l.few_states (l.rows s) in
+        let few = l.few_choices s in
+        omega arith
 
-  pub branches_small : Lawful m → (k : ℕ) → k ≤ m.states → length (all_branches (choices_to k)) ≤ 536870912
-  branches_small l k h = let few = few_branches l 0 k in let n = l.few_states in omega arith
+    -- so each of the three sums fits
+    pub choices_fit : sum_by choices_at (range_with_len 0 m.states) < 2 ^ 64
+    choices_fit = let few = l.few_states in omega (arith, sum_short choices_at 2048 m.states (λ s. l.few_choices s))
 
--- the branches of one row more
-pub row_more : (rs : List Row) (i : ℕ) → i < length rs → length (all_branches (take (i + 1) rs)) ≡ length (all_branches (take i rs)) + length (get_or rs i [])
-row_more rs i h =
-    ap (λ t. length (all_branches t)) (take_more rs i [] h) ∙ ap length (all_branches_append (take i rs) (get_or rs i [] ∷ [])) ∙ length-append (all_branches (take i rs)) (get_or rs i [] ++ [])
-    ∙ ap (λ t. length (all_branches (take i rs)) + length t) (append-nil (get_or rs i []))
+    pub branches_fit : sum_by branches_at (range_with_len 0 m.states) < 2 ^ 64
+    branches_fit = let few = l.few_states in omega (arith, sum_short branches_at 1048576 m.states branches_few)
 
--- so the first rows of a state of a lawful model have few branches
-pub rows_small : (m : Mdp) → Lawful m → (s i : ℕ) → length (all_branches (take i (m.choices s))) ≤ 1048576
-rows_small m l s i =
-    let rs = m.choices s in
-    let all = rows_short m.states m.denominator rs l.few_states (l.rows s) in
-    let few = l.few_choices s in
-    let whole : length (all_branches rs) ≡ length (all_branches (take i rs)) + length (all_branches (drop i rs)) =
-    ap (λ t. length (all_branches t)) (sym (take-append-drop i rs)) ∙ ap length (all_branches_append (take i rs) (drop i rs)) ∙ length-append (all_branches (take i rs)) (all_branches (drop i rs)) in
-    omega (arith, all, few, whole)
+    pub state_fits : (s : ℕ) → sum_by (branches_of s) (range_with_len 0 (choices_at s)) < 2 ^ 64
+    state_fits s = omega (arith, state_counted s, branches_few s)

@@ -1,40 +1,32 @@
--- Places in a line.
-use Rattle.std.proofs.Common.{◌≡◌, ℕ, suc, ◌+◌, ◌-◌, ◌<◌, ◌≤◌, cond, eqb, List, [], ◌∷◌, length, get_or, drop, refl, ap, ◌∙◌, arith}
-use Rattle.std.proofs.lemmas.List.{at_drop_more, at_drop_all}
+-- Where the fields of a line begin, from one tab to the next.
+use Rattle.std.proofs.Common.{◌≡◌, ◌≢◌, ℕ, zero, suc, ◌+◌, ◌-◌, ◌<◌, ◌≤◌, eqb, List, [], ◌∷◌, length, drop, refl, ap, ◌∙◌, arith}
+use Rattle.std.specs.List.{AllWithin, HoldsAt}
 use Rattle.std.proofs.lemmas.Bool.{cond-true, cond-false, eq-eqb, ne_eqb}
 use Rattle.printing.specs.Carets.{field_place}
 
--- the place of field 0 is the start
-place_none : (xs : List ℕ) → field_place 0 xs ≡ 0
-place_none [] = refl
-place_none (x ∷ xs) = refl
+-- where no byte is a tab, every later field is at the line's end
+pub no_tab : (k : ℕ) (line : List ℕ) → AllWithin (λ b. b ≢ 9) line 0 (length line) → field_place (suc k) line ≡ length line
+no_tab k [] none = refl
+no_tab k (b ∷ bs) none =
+    let other = ap (λ n. field_place n bs) (cond-false (eqb b 9) k (suc k) (ne_eqb b 9 (none 0 0 (omega arith) (omega arith)))) in
+    let rest = no_tab k bs (λ i d low h. none (suc i) d (omega arith) (omega arith)) in
+    omega arith
 
--- the place of field k of a line: p bytes are passed, and t tabs among them
-abbrev pub Passed : List ℕ → ℕ → ℕ → ℕ → Type 0
-Passed line k t p = p + field_place (k - t) (drop p line) ≡ field_place k line
+-- where byte i is the first tab, a later field begins behind it
+pub at_tab : (k i : ℕ) (line : List ℕ) → i < length line → HoldsAt (λ b. b ≡ 9) line i → AllWithin (λ b. b ≢ 9) line 0 i → field_place (suc k) line ≡ i + 1 + field_place k (drop (i + 1) line)
+at_tab k i [] h at none = absurd (omega arith)
+at_tab k zero (b ∷ bs) h at none = ap (λ n. 1 + field_place n bs) (cond-true (eqb b 9) k (suc k) (eq-eqb b 9 (at 0)))
+at_tab k (suc i) (b ∷ bs) h at none =
+    let other = ap (λ n. field_place n bs) (cond-false (eqb b 9) k (suc k) (ne_eqb b 9 (none 0 0 (omega arith) (omega arith)))) in
+    let rest = at_tab k i bs (omega arith) (λ d. at d) (λ j d low h. none (suc j) d (omega arith) (omega arith)) in
+    let next : suc i + 1 ≡ suc (i + 1) = omega arith in
+    omega (arith, ap (λ n. field_place k (drop n (b ∷ bs))) next)
 
-module _ (line : List ℕ) (k t p : ℕ) (h : t < k) (l : p < length line) where
-  -- what is left from the next byte on, with a tab less to pass
-  left : field_place (k - t) (drop p line) ≡ 1 + field_place (cond (eqb (get_or line p 0) 9) (k - (t + 1)) (suc (k - (t + 1)))) (drop (p + 1) line)
-  left = let next : k - t ≡ suc (k - (t + 1)) = omega arith in ap (λ n. field_place n (drop p line)) next ∙ at_drop_more (field_place (suc (k - (t + 1)))) line p 0 l
+-- field 0 begins where the line does
+none_past : (line : List ℕ) → field_place 0 line ≡ 0
+none_past [] = refl
+none_past (b ∷ bs) = refl
 
-  -- a tab is passed
-  pub passed_tab : get_or line p 0 ≡ 9 → Passed line k t p → Passed line k (t + 1) (p + 1)
-  passed_tab e before =
-      omega (arith, before, left, ap (λ n. field_place n (drop (p + 1) line)) (cond-true (eqb (get_or line p 0) 9) (k - (t + 1)) (suc (k - (t + 1))) (eq-eqb (get_or line p 0) 9 e)))
-
-  -- any other byte is passed
-  pub passed_byte : (get_or line p 0 ≡ 9 → ⊥) → Passed line k t p → Passed line k t (p + 1)
-  passed_byte e before =
-      let same : suc (k - (t + 1)) ≡ k - t = omega arith in
-      omega (arith, before, left, ap (λ n. field_place n (drop (p + 1) line)) (cond-false (eqb (get_or line p 0) 9) (k - (t + 1)) (suc (k - (t + 1))) (ne_eqb (get_or line p 0) 9 e) ∙ same))
-
--- all tabs are passed
-pub passed_all : (line : List ℕ) (k p : ℕ) → Passed line k k p → p ≡ field_place k line
-passed_all line k p before =
-    let none : k - k ≡ 0 = omega arith in
-    omega (arith, before, ap (λ n. field_place n (drop p line)) none ∙ place_none (drop p line))
-
--- the line ends before all tabs are passed
-pub passed_end : (line : List ℕ) (k t p : ℕ) → length line ≤ p → Passed line k t p → p ≡ field_place k line
-passed_end line k t p l before = omega (arith, before, at_drop_all (field_place (k - t)) line p l)
+-- so it does where all tabs are passed
+pub all_past : (k t : ℕ) (line : List ℕ) → k ≤ t → field_place (k - t) line ≡ 0
+all_past k t line h = let none : k - t ≡ 0 = omega arith in ap (λ n. field_place n line) none ∙ none_past line

@@ -1,28 +1,43 @@
 -- The letters of a set of labels, written one after another.
-use Rattle.std.proofs.Common.{◌≡◌, ℕ, ◌+◌, ◌<◌, ◌≤◌, Bool, true, false, cond, List, [], ◌∷◌, ◌++◌, length, get_or, drop, sym, ap, ◌∙◌, append_assoc, append-nil, arith}
-use Rattle.std.proofs.lemmas.List.{at_drop_more, at_drop_all}
-use Rattle.text.specs.Fields.{letters_from}
+use Rattle.std.proofs.Common.{◌≡◌, ℕ, suc, zero, ◌+◌, ◌<◌, Bool, true, false, cond, List, [], ◌∷◌, ◌++◌, length, get_or, take, refl, ap, add-one, arith}
+use Rattle.std.specs.Bool.{beq}
+use Rattle.std.specs.List.{list_any}
+use Rattle.text.specs.Fields.{letters_from, labels_text, or_else, dash}
 
--- what is written and what is left give all letters
-abbrev pub Left : List ℕ → List Bool → ℕ → Type 0
-Left out flags i = out ++ letters_from (97 + i) (drop i flags) ≡ letters_from 97 flags
+-- the letters of the first flags, and of one flag more
+pub letters_more : (letter : ℕ) (flags : List Bool) (i : ℕ) → i < length flags → letters_from letter (take (i + 1) flags) ≡ letters_from letter (take i flags) ++ cond (get_or flags i false) ((letter + i) ∷ []) []
+letters_more letter [] i h = absurd (omega arith)
+letters_more letter (flag ∷ flags) zero h =
+    let same : letter ≡ letter + 0 = omega arith in
+    ap (λ l. cond flag (l ∷ []) []) same
+letters_more letter (true ∷ flags) (suc i) h =
+    let next : letter + 1 + i ≡ letter + suc i = omega arith in
+    let more = letters_more (letter + 1) flags i (omega arith) in
+    rw (add-one (suc i)) (ap (λ t. letter ∷ t) (rw (add-one i) at (rw next at more)))
+letters_more letter (false ∷ flags) (suc i) h =
+    let next : letter + 1 + i ≡ letter + suc i = omega arith in
+    let more = letters_more (letter + 1) flags i (omega arith) in
+    rw (add-one (suc i)) (rw (add-one i) at (rw next at more))
 
--- the letters that are left, by the next flag
-next : (flags : List Bool) (i : ℕ) (flag : Bool) → i < length flags → get_or flags i false ≡ flag → letters_from (97 + i) (drop i flags) ≡ cond flag ((97 + i) ∷ letters_from (97 + (i + 1)) (drop (i + 1) flags)) (letters_from (97 + (i + 1)) (drop (i + 1) flags))
-next flags i flag h e =
-    let more : ℕ → List ℕ = λ n. letters_from n (drop (i + 1) flags) in
-    let up : 97 + i + 1 ≡ 97 + (i + 1) = omega arith in
-    at_drop_more (letters_from (97 + i)) flags i false h ∙ ap (λ b. cond b ((97 + i) ∷ more (97 + i + 1)) (more (97 + i + 1))) e ∙ ap (λ n. cond flag ((97 + i) ∷ more n) (more n)) up
+-- is a flag set?
+abbrev some_set : List Bool → Bool
+some_set flags = list_any (λ flag. beq flag true) flags
 
--- the letter of a set flag is written
-pub left_set : (out : List ℕ) (flags : List Bool) (i : ℕ) → i < length flags → get_or flags i false ≡ true → Left out flags i → Left (out ++ ((97 + i) ∷ [])) flags (i + 1)
-left_set out flags i h e left =
-    append_assoc out ((97 + i) ∷ []) (letters_from (97 + (i + 1)) (drop (i + 1) flags)) ∙ ap (λ t. out ++ t) (sym (next flags i true h e)) ∙ left
+-- where no flag is set, there is no letter
+no_letters : (letter : ℕ) (flags : List Bool) → some_set flags ≡ false → letters_from letter flags ≡ []
+no_letters letter [] e = refl
+no_letters letter (true ∷ flags) e = cc
+no_letters letter (false ∷ flags) e = no_letters (letter + 1) flags e
 
--- nothing is written for a flag that is not set
-pub left_clear : (out : List ℕ) (flags : List Bool) (i : ℕ) → i < length flags → get_or flags i false ≡ false → Left out flags i → Left out flags (i + 1)
-left_clear out flags i h e left = ap (λ t. out ++ t) (sym (next flags i false h e)) ∙ left
+-- so the dash is written
+pub none_written : (flags : List Bool) → some_set flags ≡ false → labels_text flags ≡ dash
+none_written flags e = ap (λ t. or_else t dash) (no_letters 97 flags e)
 
--- nothing is left at the end
-pub left_none : (out : List ℕ) (flags : List Bool) (i : ℕ) → length flags ≤ i → Left out flags i → out ≡ letters_from 97 flags
-left_none out flags i h left = sym (ap (λ t. out ++ t) (at_drop_all (letters_from (97 + i)) flags i h) ∙ append-nil out) ∙ left
+-- where one is set, the letters are written
+letters_written : (letter : ℕ) (flags : List Bool) → some_set flags ≡ true → or_else (letters_from letter flags) dash ≡ letters_from letter flags
+letters_written letter [] e = cc
+letters_written letter (true ∷ flags) e = refl
+letters_written letter (false ∷ flags) e = letters_written (letter + 1) flags e
+
+pub some_written : (flags : List Bool) → some_set flags ≡ true → labels_text flags ≡ letters_from 97 flags
+some_written flags e = letters_written 97 flags e

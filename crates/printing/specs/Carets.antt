@@ -4,15 +4,15 @@ use Rattle.text.specs.declared.fault.FileFault.{FileFault}
 use Rattle.text.specs.Cuts.{piece}
 use Rattle.text.specs.Faults.{fault_line, fault_field}
 use Rattle.text.specs.Fields.{between}
-use Rattle.printing.specs.declared.drawn.Drawn.{Drawn}
-use Rattle.printing.specs.declared.drawn.Drawn.TheVariants.{Shown, Under}
 use Rattle.printing.specs.Words.{file_refusal}
 
--- a byte as it is drawn. In the shown line, tabs (9) and printable ASCII stay, and `?` (63) stands for any other. In the line
--- under it, a tab stands under a tab, so that what follows stands where it does above, and else a blank (32)
-abbrev pub drawn : Drawn → ℕ → ℕ
-drawn Shown b = cond (b == 9 || between 32 126 b) b 63
-drawn Under b = cond (b == 9) 9 32
+-- a byte of the shown line: tabs (9) and printable ASCII stay, and `?` (63) stands for any other
+abbrev pub shown : ℕ → ℕ
+shown b = cond (b == 9 || between 32 126 b) b 63
+
+-- a byte of the line under it: a tab stands under a tab, so that what follows stands where it does above, and else a blank (32)
+abbrev pub under : ℕ → ℕ
+under b = cond (b == 9) 9 32
 
 -- where field k of a line begins: past k tabs, or at the line's end where there are fewer
 abbrev pub field_place : ℕ → List ℕ → ℕ
@@ -27,7 +27,7 @@ caret_place (Some at) line = min (field_place at.0 line + at.1) (length line)
 
 -- a line as it is shown, and a caret under the place of the fault
 abbrev pub marked : Option (ℕ × ℕ) → List ℕ → List ℕ
-marked at line = map (drawn Shown) line ++ (codes "\n" ++ (map (drawn Under) (take (caret_place at line) line) ++ codes "^\n"))
+marked at line = map shown line ++ (codes "\n" ++ (map under (take (caret_place at line) line) ++ codes "^\n"))
 
 -- the part of a text that is shown for line n, from 1: the line, or its first 100 bytes; nothing for line 0
 abbrev pub mark : ℕ → Option (ℕ × ℕ) → List ℕ → List ℕ

@@ -59,10 +59,14 @@ abbrev pub file_refusal : FileFault → List ℕ
 file_refusal f =
     codes "refused " ++ (decimal (file_fault_number f) ++ (codes " line " ++ (decimal (fault_line f) ++ (field_text (fault_field f) ++ (codes ": " ++ file_words f)))))
 
+-- the line of a refusal that has no place in a text: its number and its words
+abbrev pub refusal_line : ℕ → List ℕ → List ℕ
+refusal_line number words = codes "refused " ++ (decimal number ++ (codes ": " ++ words))
+
 -- the first line of a ladder's refusal
 abbrev pub ladder_refusal : LadderFault → List ℕ
-ladder_refusal f = codes "refused " ++ (decimal (fault_number f) ++ (codes ": " ++ ladder_words f))
+ladder_refusal f = refusal_line (fault_number f) (ladder_words f)
 
 -- the first line of a hold's refusal
 abbrev pub hold_refusal : HoldFault → List ℕ
-hold_refusal f = codes "refused " ++ (decimal (hold.fault_number f) ++ (codes ": " ++ hold_words f))
+hold_refusal f = refusal_line (hold.fault_number f) (hold_words f)

@@ -1,20 +1,28 @@
-ghost use Rattle.std.specs.Prelude.{◌≡◌, ◌++◌, map, take, IfOk, string_bytes, OnOk};
-ghost use Rattle.printing.specs.Carets.{drawn, field_place, caret_place, marked, mark, refusal_text};
+ghost use Rattle.std.specs.Prelude.{◌≡◌, ℕ, ◌<◌, ◌++◌, map, IfOk, string_bytes, OnOk};
+ghost use Rattle.printing.specs.Carets.{shown, under, field_place, caret_place, marked, mark, refusal_text};
 
-use crate::drawn::Drawn;
 use crate::words::file_refusal;
 use std::alloc::{AllocError, Global};
 use text::cut::piece;
 use text::fault::FileFault;
 
-// A byte as it is drawn.
-fn drawn(which: Drawn, byte: u8) -> u8
-    ensures { result ≡ drawn which byte }
+// A byte of the shown line.
+fn shown(byte: u8) -> u8
+    ensures { result ≡ shown byte }
 {
-    match (which, byte) {
-        (_, b'\t') | (Drawn::Shown, b' '..=b'~') => byte,
-        (Drawn::Shown, _) => b'?',
-        (Drawn::Under, _) => b' ',
+    match byte {
+        b'\t' | b' '..=b'~' => byte,
+        _ => b'?',
+    }
+}
+
+// A byte of the line under it.
+fn under(byte: u8) -> u8
+    ensures { result ≡ under byte }
+{
+    match byte {
+        b'\t' => byte,
+        _ => b' ',
     }
 }
 
@@ -22,16 +30,14 @@ fn drawn(which: Drawn, byte: u8) -> u8
 fn field_place(line: &[u8], field: usize) -> usize
     ensures { result ≡ field_place field line.now }
 {
-    let mut tabs = 0;
-    for (place, byte) in line.iter().enumerate() {
-        if tabs == field {
-            return place;
-        }
-        if *byte == b'\t' {
-            tabs += 1;
+    let mut rest = line;
+    for _ in 0..field {
+        match rest.iter().position(|byte| *byte == b'\t') {
+            None => return line.len(),
+            Some(tab) => rest = &rest[tab + 1..],
         }
     }
-    line.len()
+    line.len() - rest.len()
 }
 
 // The place of a fault in its line: past the longest lawful beginning of its field, or the line's start where it has no
@@ -39,20 +45,23 @@ fn field_place(line: &[u8], field: usize) -> usize
 fn caret_place(line: &[u8], field: Option<(usize, usize)>) -> usize
     ensures { result ≡ caret_place field line.now }
 {
-    match field {
-        None => 0,
-        Some((field, length)) => field_place(line, field)
+    field.map_or(0, |(field, length)| {
+        field_place(line, field)
             .saturating_add(length)
-            .min(line.len()),
-    }
+            .min(line.len())
+    })
 }
 
-// Adds some bytes of a line as they are drawn.
-fn add_drawn(out: &mut String, which: Drawn, line: &[u8]) -> Result<(), AllocError>
-    ensures { OnOk result (string_bytes out.new ≡ string_bytes out.old ++ map (drawn which) line.now) }
+// Adds the bytes of a line, each as `draw` draws it.
+fn add_drawn<F: Fn(u8) -> u8>(out: &mut String, line: &[u8], draw: F) -> Result<(), AllocError>
+    ghost drawn: { ℕ → ℕ }
+    requires drawable { F.IsAlwaysCallable draw }
+    requires draws { (byte r : ℕ) → F.post draw byte r → r ≡ drawn byte }
+    requires ascii { (byte : ℕ) → drawn byte < 128 }
+    ensures { OnOk result (string_bytes out.new ≡ string_bytes out.old ++ map drawn line.now) }
 {
     for byte in line {
-        out.push(char::from(drawn(which, *byte)))?;
+        out.push(char::from(draw(*byte)))?;
     }
     Ok(())
 }
@@ -65,25 +74,15 @@ fn add_marked(
 ) -> Result<(), AllocError>
     ensures { OnOk result (string_bytes out.new ≡ string_bytes out.old ++ marked field line.now) }
 {
-    add_drawn(out, Drawn::Shown, line)?;
+    add_drawn(out, line, shown)?;
     out.push_str("\n")?;
-    add_drawn(out, Drawn::Under, &line[0..caret_place(line, field)])?;
+    add_drawn(out, &line[..caret_place(line, field)], under)?;
     out.push_str("^\n")?;
     Ok(())
 }
 
-// The first bytes of a line, this many at the most.
-fn front(line: &[u8], most: usize) -> &[u8]
-    ensures { result.now ≡ take most line.now }
-{
-    if line.len() <= most {
-        line
-    } else {
-        &line[0..most]
-    }
-}
-
-// Adds the line of the text with this number, from 1, with a caret under the place of the fault: nothing for line 0.
+// Adds the line of the text with this number, from 1, or its first 100 bytes, with a caret under the place of the fault:
+// nothing for line 0.
 fn add_mark(
     out: &mut String,
     text: &[u8],
@@ -92,11 +91,13 @@ fn add_mark(
 ) -> Result<(), AllocError>
     ensures { OnOk result (string_bytes out.new ≡ string_bytes out.old ++ mark number field text.now) }
 {
-    if number == 0 {
-        return Ok(());
+    match number.checked_sub(1) {
+        None => Ok(()),
+        Some(index) => {
+            let line = piece(text, b'\n', index);
+            add_marked(out, &line[..line.len().min(100)], field)
+        }
     }
-    add_marked(out, front(piece(text, b'\n', number - 1), 100), field)?;
-    Ok(())
 }
 
 // The refusal of a text: its first line, and then the refused line with the caret.

@@ -8,31 +8,25 @@ use model::source::Source;
 pub(crate) fn choice_count<S: Source>(source: &S) -> usize
     ensures { result ≡ length (all_choices (model_content (S.Source.model source.now)).states) }
 {
-    let mut count = 0;
-    for state in 0..source.states() {
-        count += source.choices(state);
-    }
-    count
+    (0..source.states())
+        .map(|state| source.choices(state))
+        .sum()
 }
 
 // How many branches the choices of a state have.
 fn state_branches<S: Source>(source: &S, state: usize) -> usize
     ensures { result ≡ length (all_branches ((S.Source.model source.now).choices state)) }
 {
-    let mut count = 0;
-    for choice in 0..source.choices(state) {
-        count += source.branches(state, choice);
-    }
-    count
+    (0..source.choices(state))
+        .map(|choice| source.branches(state, choice))
+        .sum()
 }
 
 // How many branches a source has in all.
 pub(crate) fn branch_count<S: Source>(source: &S) -> usize
     ensures { result ≡ length (all_branches (all_choices (model_content (S.Source.model source.now)).states)) }
 {
-    let mut count = 0;
-    for state in 0..source.states() {
-        count += state_branches(source, state);
-    }
-    count
+    (0..source.states())
+        .map(|state| state_branches(source, state))
+        .sum()
 }

@@ -1,30 +1,27 @@
-ghost use Rattle.std.specs.Prelude.{◌≡◌, IfOk, string_bytes};
-ghost use Rattle.text.specs.Fields.{letters_from, labels_text};
+ghost use Rattle.std.specs.Prelude.{Some};
+ghost use Rattle.text.specs.Fields.{labels_text};
 
 use model::labels::Labels;
-use std::alloc::{AllocError, Global};
+use std::fmt;
 
-// The letters of a set of labels, one after another.
-fn letters_text(heap: Global, labels: &Labels) -> Result<String, AllocError>
-    ensures { IfOk result (λ s. string_bytes s ≡ letters_from 97 labels.now.letters) }
-{
-    let mut text = String::new(heap);
-    for index in 0..16 {
-        if labels.letters[index] {
-            text.push(char::from(b'a' + index as u8))?;
+// A set of labels as a text writes it: its letters one after another, or `-` for none.
+#[derive(Clone, Copy)]
+pub(crate) struct Letters<'a>(pub &'a Labels);
+
+impl fmt::Display for Letters<'_> {
+    ghost output = { λ l. Some (labels_text l.0.now.letters) };
+
+    fn fmt<W: fmt::Write>(&self, f: &mut fmt::Formatter<W>) -> fmt::Result {
+        let letters = self.0.letters;
+        if !letters.contains(&true) {
+            return write!(f, "-");
         }
-    }
-    Ok(text)
-}
-
-// A set of labels as a text writes it: its letters, or `-` for none.
-pub(crate) fn labels_text(heap: Global, labels: &Labels) -> Result<String, AllocError>
-    ensures { IfOk result (λ s. string_bytes s ≡ labels_text labels.now.letters) }
-{
-    let letters = letters_text(heap, labels)?;
-    if letters.is_empty() {
-        String::from_str(heap, "-")
-    } else {
-        Ok(letters)
+        for (index, there) in letters.iter().enumerate() {
+            if *there {
+                let letter = char::from(b'a' + index as u8);
+                write!(f, "{letter}")?;
+            }
+        }
+        Ok(())
     }
 }

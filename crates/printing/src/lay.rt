@@ -6,54 +6,64 @@ use crate::style::Style;
 use model::source::Source;
 use std::alloc::{AllocError, Global};
 
-// One choice of a source, laid out.
-fn lay_choice<S: Source, L: Style>(
+// A source to be laid out in a style, and where the text is made.
+#[derive(Clone, Copy)]
+pub(crate) struct Laid<'a, S, L> {
     heap: Global,
-    style: &L,
-    source: &S,
-    state: usize,
-    choice: usize,
-) -> Result<String, AllocError>
-    ensures { IfOk result (λ s. string_bytes s ≡ laid_choice (L.Style.layout style.now) choice (row (S.Source.model source.now) state choice)) }
-{
-    let mut out = style.choice(heap, choice)?;
-    for index in 0..source.branches(state, choice) {
-        let text = style.branch(heap, index, source.branch(state, choice, index))?;
-        out.push_str(text.as_str())?;
-    }
-    Ok(out)
+    style: L,
+    source: &'a S,
 }
 
-// One state of a source, laid out.
-pub(crate) fn lay_state<S: Source, L: Style>(
-    heap: Global,
-    style: &L,
-    source: &S,
-    state: usize,
-) -> Result<String, AllocError>
-    ensures { IfOk result (λ s. string_bytes s ≡ laid_state (L.Style.layout style.now) state (state_of (S.Source.model source.now) state)) }
-{
-    let mut out = style.state(heap, state, &source.labels(state))?;
-    for choice in 0..source.choices(state) {
-        let text = lay_choice(heap, style, source, state, choice)?;
-        out.push_str(text.as_str())?;
+impl<'a, S: Source, L: Style> Laid<'a, S, L> {
+    // The source, to be laid out in the style.
+    pub fn new(heap: Global, style: L, source: &'a S) -> Laid<'a, S, L>
+        ensures style { result.style ≡ style }
+        ensures source { result.source.now ≡ source.now }
+    {
+        Laid {
+            heap,
+            style,
+            source,
+        }
     }
-    out.push_str(style.close())?;
-    Ok(out)
-}
 
-// The states of a source, laid out.
-pub(crate) fn lay_states<S: Source, L: Style>(
-    heap: Global,
-    style: &L,
-    source: &S,
-) -> Result<String, AllocError>
-    ensures { IfOk result (λ s. string_bytes s ≡ laid_states (L.Style.layout style.now) (model_content (S.Source.model source.now)).states) }
-{
-    let mut out = String::new(heap);
-    for state in 0..source.states() {
-        let text = lay_state(heap, style, source, state)?;
-        out.push_str(text.as_str())?;
+    // One choice of the source, laid out.
+    fn choice(&self, state: usize, choice: usize) -> Result<String, AllocError>
+        ensures { IfOk result (λ s. string_bytes s ≡ laid_choice (L.Style.layout self.now.style) choice (row (S.Source.model self.now.source.now) state choice)) }
+    {
+        let mut out = self.style.choice(self.heap, choice)?;
+        for index in 0..self.source.branches(state, choice) {
+            let branch = self.source.branch(state, choice, index);
+            let text = self.style.branch(self.heap, index, branch)?;
+            out.push_str(text.as_str())?;
+        }
+        Ok(out)
     }
-    Ok(out)
+
+    // One state of the source, laid out.
+    pub fn state(&self, state: usize) -> Result<String, AllocError>
+        ensures { IfOk result (λ s. string_bytes s ≡ laid_state (L.Style.layout self.now.style) state (state_of (S.Source.model self.now.source.now) state)) }
+    {
+        let mut out = self
+            .style
+            .state(self.heap, state, &self.source.labels(state))?;
+        for choice in 0..self.source.choices(state) {
+            let text = self.choice(state, choice)?;
+            out.push_str(text.as_str())?;
+        }
+        out.push_str(self.style.close())?;
+        Ok(out)
+    }
+
+    // The states of the source, laid out.
+    pub fn states(&self) -> Result<String, AllocError>
+        ensures { IfOk result (λ s. string_bytes s ≡ laid_states (L.Style.layout self.now.style) (model_content (S.Source.model self.now.source.now)).states) }
+    {
+        let mut out = String::new(self.heap);
+        for state in 0..self.source.states() {
+            let text = self.state(state)?;
+            out.push_str(text.as_str())?;
+        }
+        Ok(out)
+    }
 }

@@ -4,7 +4,6 @@
 
 pub mod caret;
 mod counts;
-mod drawn;
 mod labels;
 mod lay;
 pub mod listing;

@@ -1,23 +1,18 @@
 ghost use Rattle.std.specs.Prelude.{◌≡◌, IfOk, string_bytes};
 ghost use Rattle.printing.specs.Layouts.{model_content, state_of, laid_state};
-ghost use Rattle.printing.specs.Listings.{listing, framed, totals_of, totals_text, show_text};
+ghost use Rattle.printing.specs.Listings.{listing, framed, totals_of, show_text};
 ghost use Rattle.text.specs.Texts.{text_of};
 
 use crate::counts::{branch_count, choice_count};
-use crate::lay::{lay_state, lay_states};
+use crate::lay::Laid;
 use crate::style::{Listing, ModelText};
 use crate::totals::Totals;
 use model::source::Source;
 use std::alloc::{AllocError, Global};
 
 // A model text around the lines of its states.
-fn framed(
-    heap: Global,
-    states: usize,
-    denominator: u32,
-    lines: &String,
-) -> Result<String, AllocError>
-    ensures { IfOk result (λ s. string_bytes s ≡ framed states denominator (string_bytes lines.now)) }
+fn framed(heap: Global, states: usize, denominator: u32, lines: &str) -> Result<String, AllocError>
+    ensures { IfOk result (λ s. string_bytes s ≡ framed states denominator lines.now) }
 {
     format!(in heap; "mdp\t{states}\t{denominator}\n{lines}end\n")
 }
@@ -26,15 +21,15 @@ fn framed(
 pub fn state_text<S: Source>(heap: Global, source: &S, state: usize) -> Result<String, AllocError>
     ensures { IfOk result (λ s. string_bytes s ≡ laid_state listing state (state_of (S.Source.model source.now) state)) }
 {
-    lay_state(heap, &Listing, source, state)
+    Laid::new(heap, Listing, source).state(state)
 }
 
 // The model text of a source.
 pub fn model_text<S: Source>(heap: Global, source: &S) -> Result<String, AllocError>
     ensures { IfOk result (λ s. string_bytes s ≡ text_of (model_content (S.Source.model source.now))) }
 {
-    let lines = lay_states(heap, &ModelText, source)?;
-    framed(heap, source.states(), source.denominator(), &lines)
+    let lines = Laid::new(heap, ModelText, source).states()?;
+    framed(heap, source.states(), source.denominator(), lines.as_str())
 }
 
 // The totals of a source whose text has so many bytes.
@@ -50,26 +45,12 @@ pub fn totals<S: Source>(source: &S, bytes: usize) -> Totals
     }
 }
 
-// Totals in words, a line for each.
-fn totals_text(heap: Global, totals: &Totals) -> Result<String, AllocError>
-    ensures { IfOk result (λ s. string_bytes s ≡ totals_text totals.now) }
-{
-    let bytes = totals.bytes;
-    let states = totals.states;
-    let denominator = totals.denominator;
-    let choices = totals.choices;
-    let branches = totals.branches;
-    format!(in heap;
-        "bytes {bytes}\nstates {states}\ndenominator {denominator}\nchoices {choices}\nbranches {branches}\n",
-    )
-}
-
 // What `show` prints of a source whose text has so many bytes.
 pub fn show_text<S: Source>(heap: Global, source: &S, bytes: usize) -> Result<String, AllocError>
     ensures { IfOk result (λ s. string_bytes s ≡ show_text bytes (model_content (S.Source.model source.now))) }
 {
-    let mut text = totals_text(heap, &totals(source, bytes))?;
-    let lines = lay_states(heap, &Listing, source)?;
+    let mut text = totals(source, bytes).to_string(heap)?;
+    let lines = Laid::new(heap, Listing, source).states()?;
     text.push_str(lines.as_str())?;
     Ok(text)
 }

@@ -2,7 +2,7 @@ ghost use Rattle.std.specs.Prelude.{◌≡◌, IfOk, string_bytes};
 ghost use Rattle.printing.specs.Layouts.{Layout};
 ghost use Rattle.printing.specs.Listings.{model_text, listing, lead};
 
-use crate::labels::labels_text;
+use crate::labels::Letters;
 use model::branch::Branch;
 use model::labels::Labels;
 use std::alloc::{AllocError, Global};
@@ -37,7 +37,7 @@ impl Style for ModelText {
     ghost layout = { λ _. model_text };
 
     fn state(&self, heap: Global, state: usize, labels: &Labels) -> Result<String, AllocError> {
-        let letters = labels_text(heap, labels)?;
+        let letters = Letters(labels);
         format!(in heap; "s\t{letters}\n")
     }
 
@@ -46,8 +46,7 @@ impl Style for ModelText {
     }
 
     fn branch(&self, heap: Global, index: usize, branch: Branch) -> Result<String, AllocError> {
-        let target = branch.target;
-        let weight = branch.weight;
+        let Branch { target, weight } = branch;
         format!(in heap; "b\t{target}\t{weight}\n")
     }
 
@@ -71,7 +70,7 @@ impl Style for Listing {
     ghost layout = { λ _. listing };
 
     fn state(&self, heap: Global, state: usize, labels: &Labels) -> Result<String, AllocError> {
-        let letters = labels_text(heap, labels)?;
+        let letters = Letters(labels);
         format!(in heap; "state {state} labels {letters}")
     }
 
@@ -82,8 +81,7 @@ impl Style for Listing {
 
     fn branch(&self, heap: Global, index: usize, branch: Branch) -> Result<String, AllocError> {
         let lead = lead(": ", ", ", index);
-        let target = branch.target;
-        let weight = branch.weight;
+        let Branch { target, weight } = branch;
         format!(in heap; "{lead}{target} with {weight}")
     }
 

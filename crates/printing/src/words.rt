@@ -1,12 +1,16 @@
-ghost use Rattle.std.specs.Prelude.{◌≡◌, IfOk, string_bytes};
-ghost use Rattle.printing.specs.Words.{field_words, line_words, file_words, ladder_words, hold_words, field_text, file_refusal, ladder_refusal, hold_refusal};
+ghost use Rattle.std.specs.Prelude.{◌≡◌, ℕ, List, Some, IfOk, string_bytes};
+ghost use Rattle.ladder.specs.Refusals.{fault_number};
+ghost use Rattle.layers.specs.HoldAnswers as hold_answers;
+ghost use Rattle.printing.specs.Words.{field_words, line_words, file_words, ladder_words, hold_words, field_text, file_refusal, refusal_line};
 
 use ladder::fault::LadderFault;
 use layers::fault::HoldFault;
 use std::alloc::{AllocError, Global};
+use std::fmt;
 use text::fault::{FieldFault, FileFault, LineFault};
 
-// The words on a field's fault.
+// The words on a field's fault. This function and the two below it stay functions: a method would need a trait, since the
+// faults are of another crate, and each of the three faults lies in the next.
 fn field_words(fault: &FieldFault) -> &'static str
     ensures { result.now ≡ field_words fault.now }
 {
@@ -65,41 +69,79 @@ fn file_words(fault: &FileFault) -> &'static str
     }
 }
 
-// The words on a ladder's fault.
-fn ladder_words(fault: &LadderFault) -> &'static str
-    ensures { result.now ≡ ladder_words fault.now }
-{
-    match fault {
-        LadderFault::Rungs => {
-            "a ladder has 1 to 511 rungs; change the first number of ladder:RUNGS:DENOMINATOR:WEIGHT"
-        }
-        LadderFault::Denominator => {
-            "the denominator of a ladder is 1 to 1000000; change the second number of ladder:RUNGS:DENOMINATOR:WEIGHT"
-        }
-        LadderFault::Weight => {
-            "the weight of a ladder is 1 to its denominator; change the third number of ladder:RUNGS:DENOMINATOR:WEIGHT"
+// A fault with no place in a text: a user is told of it by its number and in words.
+pub trait Refusal {
+    // the number of the fault
+    ghost number: { Self → ℕ };
+
+    // the words on it
+    ghost words: { Self → List ℕ };
+
+    // The number of the fault.
+    fn number(&self) -> u8
+        ensures { result ≡ number self.now };
+
+    // The words on it: what is wrong, and what to do.
+    fn words(&self) -> &'static str
+        ensures { result.now ≡ words self.now };
+}
+
+// What is told of a ladder's fault.
+impl Refusal for LadderFault {
+    ghost number = { fault_number };
+
+    ghost words = { ladder_words };
+
+    fn number(&self) -> u8 {
+        LadderFault::number(self)
+    }
+
+    fn words(&self) -> &'static str {
+        match self {
+            LadderFault::Rungs => {
+                "a ladder has 1 to 511 rungs; change the first number of ladder:RUNGS:DENOMINATOR:WEIGHT"
+            }
+            LadderFault::Denominator => {
+                "the denominator of a ladder is 1 to 1000000; change the second number of ladder:RUNGS:DENOMINATOR:WEIGHT"
+            }
+            LadderFault::Weight => {
+                "the weight of a ladder is 1 to its denominator; change the third number of ladder:RUNGS:DENOMINATOR:WEIGHT"
+            }
         }
     }
 }
 
-// The words on a hold's fault.
-fn hold_words(fault: &HoldFault) -> &'static str
-    ensures { result.now ≡ hold_words fault.now }
-{
-    match fault {
-        HoldFault::Held => {
-            "there is no such state to hold; states are numbered from 0 to one below how many there are"
+// What is told of a hold's fault.
+impl Refusal for HoldFault {
+    ghost number = { hold_answers.fault_number };
+
+    ghost words = { hold_words };
+
+    fn number(&self) -> u8 {
+        HoldFault::number(self)
+    }
+
+    fn words(&self) -> &'static str {
+        match self {
+            HoldFault::Held => {
+                "there is no such state to hold; states are numbered from 0 to one below how many there are"
+            }
         }
     }
 }
 
-// The field and the length, of a fault that has them.
-fn field_text(heap: Global, field: Option<(usize, usize)>) -> Result<String, AllocError>
-    ensures { IfOk result (λ s. string_bytes s ≡ field_text field) }
-{
-    match field {
-        None => Ok(String::new(heap)),
-        Some((field, length)) => format!(in heap; " field {field} length {length}"),
+// The field and the length of a fault, where it has them.
+#[derive(Clone, Copy)]
+struct FieldPlace(Option<(usize, usize)>);
+
+impl fmt::Display for FieldPlace {
+    ghost output = { λ p. Some (field_text p.0) };
+
+    fn fmt<W: fmt::Write>(&self, f: &mut fmt::Formatter<W>) -> fmt::Result {
+        match self.0 {
+            None => Ok(()),
+            Some((field, length)) => write!(f, " field {field} length {length}"),
+        }
     }
 }
 
@@ -109,25 +151,16 @@ pub(crate) fn file_refusal(heap: Global, fault: &FileFault) -> Result<String, Al
 {
     let number = fault.number();
     let line = fault.line();
-    let field = field_text(heap, fault.field())?;
+    let field = FieldPlace(fault.field());
     let words = file_words(fault);
     format!(in heap; "refused {number} line {line}{field}: {words}")
 }
 
-// The first line of a ladder's refusal.
-pub fn ladder_refusal(heap: Global, fault: &LadderFault) -> Result<String, AllocError>
-    ensures { IfOk result (λ s. string_bytes s ≡ ladder_refusal fault.now) }
+// The line of a refusal that has no place in a text: its number and its words.
+pub fn refusal_line<F: Refusal>(heap: Global, fault: &F) -> Result<String, AllocError>
+    ensures { IfOk result (λ s. string_bytes s ≡ refusal_line (F.number fault.now) (F.words fault.now)) }
 {
     let number = fault.number();
-    let words = ladder_words(fault);
-    format!(in heap; "refused {number}: {words}")
-}
-
-// The first line of a hold's refusal.
-pub fn hold_refusal(heap: Global, fault: &HoldFault) -> Result<String, AllocError>
-    ensures { IfOk result (λ s. string_bytes s ≡ hold_refusal fault.now) }
-{
-    let number = fault.number();
-    let words = hold_words(fault);
+    let words = fault.words();
     format!(in heap; "refused {number}: {words}")
 }

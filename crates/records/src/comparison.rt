@@ -4,10 +4,10 @@ ghost use Rattle.records.specs.Numbers.{comparison_number};
 // How a value is compared with a bound.
 #[derive(Clone, Copy, PartialEq, Eq, Debug)]
 pub enum Comparison {
-    Below,
-    AtMost,
-    Above,
-    AtLeast,
+    Below = 1,
+    AtMost = 2,
+    Above = 3,
+    AtLeast = 4,
 }
 
 impl Comparison {
@@ -15,11 +15,6 @@ impl Comparison {
     pub fn number(self) -> u8
         ensures { result ≡ comparison_number self }
     {
-        match self {
-            Comparison::Below => 1,
-            Comparison::AtMost => 2,
-            Comparison::Above => 3,
-            Comparison::AtLeast => 4,
-        }
+        self as u8
     }
 }

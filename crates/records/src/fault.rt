@@ -48,9 +48,9 @@ impl FormulaFault {
         ensures { result ≡ formula_fault_place self.now }
     {
         match self {
-            FormulaFault::NoFormula { place } => *place,
-            FormulaFault::Number { place } => *place,
-            FormulaFault::Until { place } => *place,
+            FormulaFault::NoFormula { place }
+            | FormulaFault::Number { place }
+            | FormulaFault::Until { place } => *place,
             FormulaFault::Depth | FormulaFault::Records => 0,
         }
     }

@@ -6,18 +6,18 @@ use crate::comparison::Comparison;
 // What a record stands for.
 #[derive(Clone, Copy, PartialEq, Eq, Debug)]
 pub enum Kind {
-    Truth,
-    Label,
-    Negation,
-    Conjunction,
-    Next,
-    UntilWithin,
-    Until,
+    Truth = 0,
+    Label = 1,
+    Negation = 2,
+    Conjunction = 3,
+    Next = 4,
+    UntilWithin = 5,
+    Until = 6,
 }
 
 // One state formula of a formula that was read: its parts by the numbers of their records, its comparison if it is a
 // probability, its letter's number or its bound, its steps, and how many states it holds at and is undecided at. What it
-// has not is 0.
+// has not is 0. A caller lends a slice of these, so a part is told by its record's number and not by a box or an enum.
 #[derive(Clone, Copy, PartialEq, Eq, Debug)]
 pub struct Record {
     pub kind: Kind,
@@ -35,15 +35,7 @@ impl Kind {
     pub fn number(self) -> u8
         ensures { result ≡ kind_number self }
     {
-        match self {
-            Kind::Truth => 0,
-            Kind::Label => 1,
-            Kind::Negation => 2,
-            Kind::Conjunction => 3,
-            Kind::Next => 4,
-            Kind::UntilWithin => 5,
-            Kind::Until => 6,
-        }
+        self as u8
     }
 }
 
@@ -52,9 +44,6 @@ impl Record {
     pub fn comparison_number(&self) -> u8
         ensures { result ≡ optional_comparison_number self.now.comparison }
     {
-        match self.comparison {
-            Some(comparison) => comparison.number(),
-            None => 0,
-        }
+        self.comparison.map_or(0, Comparison::number)
     }
 }

@@ -32,9 +32,7 @@ impl Source for Ring {
     }
 
     fn labels(&self, _state: usize) -> Labels {
-        Labels {
-            letters: [false; 16],
-        }
+        Labels::default()
     }
 
     fn choices(&self, state: usize) -> usize {
@@ -50,28 +48,23 @@ impl Source for Ring {
     }
 
     fn branch(&self, state: usize, choice: usize, index: usize) -> Branch {
-        if state >= self.states || choice > 0 || index > 1 {
-            return Branch {
-                target: 0,
-                weight: 0,
-            };
+        if state >= self.states || choice > 0 {
+            return Branch::default();
         }
-        let last = state == self.states - 1;
-        if last && index == 0 {
-            Branch {
+        match (state == self.states - 1, index) {
+            (true, 0) => Branch {
                 target: 0,
                 weight: self.weight,
-            }
-        } else if last || index == 0 {
-            Branch {
+            },
+            (true, 1) | (false, 0) => Branch {
                 target: state,
                 weight: self.denominator - self.weight,
-            }
-        } else {
-            Branch {
+            },
+            (false, 1) => Branch {
                 target: state + 1,
                 weight: self.weight,
-            }
+            },
+            _ => Branch::default(),
         }
     }
 }

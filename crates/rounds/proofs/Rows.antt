@@ -1,6 +1,6 @@
 -- What a lawful model gives of a row.
-use Rattle.std.proofs.Common.{◌≡◌, ℕ, ◌+◌, ◌<◌, ◌≤◌, [], ◌∷◌, length, subst, arith}
-use Rattle.model.specs.Mdp.{Mdp, Row, row, Ascends, LawfulRow, Lawful}
+use Rattle.std.proofs.Common.{◌≡◌, ℕ, ◌+◌, ◌<◌, ◌≤◌, [], ◌∷◌, length, take, ◌∙◌, take_all, arith}
+use Rattle.model.specs.Mdp.{Mdp, Row, row, Ascends, Lawful}
 use Rattle.theory.proofs.Rounds.{row_lawful}
 
 -- a row that ascends from `low` and stays below n has at most n - low branches
@@ -13,10 +13,9 @@ ascends_short n low (b ∷ bs) h a =
     omega arith
 
 -- no row of a lawful model has more than 512 branches
-pub row_short : (m : Mdp) → Lawful m → (s c : ℕ) → c < length (m.choices s) → length (row m s c) ≤ 512
+row_short : (m : Mdp) → Lawful m → (s c : ℕ) → c < length (m.choices s) → length (row m s c) ≤ 512
 row_short m l s c h = omega (arith, ascends_short m.states 0 (row m s c) (omega arith) (row_lawful m l s c h).ascends, l.few_states)
 
--- a lawful row stays one under other names of its numbers and of itself
-pub lawful_renamed : {n n' u u' : ℕ} {r r' : Row} → n ≡ n' → u ≡ u' → r ≡ r' → LawfulRow n u r → LawfulRow n' u' r'
-lawful_renamed {n} {n'} {u} {u'} {r} {r'} e f g h =
-    subst (λ (x : ℕ). LawfulRow x u' r') e (subst (λ (x : ℕ). LawfulRow n x r') f (subst (λ (x : Row). LawfulRow n u x) g h))
+-- a row that is lent with room for 512 branches is lent whole
+pub lent_whole : (m : Mdp) → Lawful m → (s c n : ℕ) (r : Row) → c < length (m.choices s) → n ≡ 512 → r ≡ take n (row m s c) → r ≡ row m s c
+lent_whole m l s c n r h room e = e ∙ take_all n (row m s c) (omega (arith, row_short m l s c h))

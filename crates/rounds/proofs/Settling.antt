@@ -1,11 +1,11 @@
 -- Rounds of marks: when two lists of marks after rounds are the same, that they then stay for good, and when that must come.
 use Rattle.std.proofs.Common.{◌≡◌, ℕ, zero, suc, ◌+◌, ◌-◌, ◌<◌, ◌≤◌, Bool, true, false, not, List, length, None, sym, refl, ap, ◌∙◌, suc-add, zero-add, sub-add_cancel, add-one, arith}
+use Rattle.std.proofs.lemmas.Bool.{both_ways}
 use Rattle.std.proofs.lemmas.List.FromFn.{fill_by_all}
 use Rattle.model.specs.Mdp.{Mdp, Lawful}
 use Rattle.theory.specs.Rounds.{round}
 use Rattle.theory.specs.Mixes.{mix_marks, yes_first, no_first}
 use Rattle.theory.specs.WithoutSteps.{Settled}
-use Rattle.theory.proofs.Lists.{true_not_false}
 use Rattle.theory.proofs.Rounds.{rising, falling, round_same}
 use Rattle.theory.proofs.RuleLaws.{marks_greater, marks_lesser}
 use Rattle.theory.proofs.Sure.{yes_first_yes}
@@ -29,8 +29,8 @@ not_apart false false e = refl
 
 -- where one mark comes with another, the other is absent where the one is
 not_grows : (a b : Bool) → (b ≡ true → a ≡ true) → not a ≡ true → not b ≡ true
-not_grows true b h e = true_not_false false e refl
-not_grows false true h e = true_not_false false (h refl) refl
+not_grows true b h e = absurd (both_ways false refl e)
+not_grows false true h e = absurd (both_ways false refl (h refl))
 not_grows false false h e = refl
 
 module _ (p : Preference) (m : Mdp) (l : Lawful m) (marks : List Bool) where

@@ -4,8 +4,8 @@ ghost use Rattle.rounds.specs.Refusals.{fault_number};
 // Why rounds are refused: a list is not as long as there are states, or there would be too many rounds.
 #[derive(Clone, Copy, PartialEq, Eq, Debug)]
 pub enum RoundsFault {
-    Lengths,
-    Count,
+    Lengths = 37,
+    Count = 38,
 }
 
 impl RoundsFault {
@@ -13,9 +13,6 @@ impl RoundsFault {
     pub fn number(&self) -> u8
         ensures { result ≡ fault_number self.now }
     {
-        match *self {
-            RoundsFault::Lengths => 37,
-            RoundsFault::Count => 38,
-        }
+        *self as u8
     }
 }

@@ -3,6 +3,8 @@
 #![tactic(auto)]
 
 pub mod fault;
+mod lengths;
 mod round;
 pub mod run;
 pub mod settle;
+mod step;

@@ -1,18 +1,12 @@
-ghost use Rattle.std.specs.Prelude.{◌≡◌, Decides};
 ghost use Rattle.rounds.specs.Settles.{Settling};
 
 use crate::fault::RoundsFault;
-use crate::round::{ROOM, one_round};
+use crate::lengths::check_lengths;
+use crate::round::ROOM;
+use crate::step::one_round;
 use model::branch::Branch;
 use model::source::Source;
 use rules::marks::Marks;
-
-// Are the marks the same?
-fn alike(marks: &[bool], others: &[bool]) -> bool
-    ensures { Decides result (marks.now ≡ others.now) }
-{
-    marks == others
-}
 
 // Rounds of marks until a round changes no mark. It answers which round that was, the first one being round 1; afterwards
 // `marks` holds the marks that no further round changes, and `spare` the same. From marks of which the first round
@@ -27,21 +21,17 @@ pub fn settle<S: Source>(
     ensures { Settling rule.now.preference (S.Source.model source.now) marks.old spare.old marks.new spare.new result }
 {
     let states = source.states();
-    if marks.len() != states || spare.len() != states {
-        return Err(RoundsFault::Lengths);
-    }
-    let mut buffer = [Branch {
-        target: 0,
-        weight: 0,
-    }; ROOM];
+    check_lengths(states, marks.len(), spare.len())?;
+    let mut buffer = [Branch::default(); ROOM];
     let mut done = 0;
+    // a `loop`, since its value is the round that it reached
     let reached = loop {
         if done > states {
             break None;
         }
         one_round(source, rule, marks, spare, &mut buffer);
         done += 1;
-        if alike(marks, spare) {
+        if *marks == *spare {
             break Some(done);
         }
     };

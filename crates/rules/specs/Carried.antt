@@ -1,11 +1,11 @@
 -- Rules carried over to other values: where a map of values agrees with preference and mix, it agrees with laws and rounds.
 use Rattle.std.specs.Prelude.{◌≡◌, ℕ, zero, suc, ◌+◌, ◌<◌, ◌≤◌, Bool, true, List, [], ◌∷◌, ◌++◌, map, refl}
 use Rattle.std.proofs.Common.{sym, ap, ◌∙◌, inl, inr, zero-add}
+use Rattle.std.proofs.lemmas.Bool.{cases_Bool}
 use Rattle.model.specs.Mdp.{Mdp, Row, Lawful, LawfulRow, Each, total}
 use Rattle.theory.specs.Rules.{RuleLaws, LawfulMix, total_weight, valued}
 use Rattle.theory.specs.Rounds.{mixed, most, most_of, round, rounds}
 use Rattle.theory.proofs.Rounds.{mix_lawful, ascends_weights, round_same}
-use Rattle.theory.proofs.Lists.{which}
 use Rattle.rules.specs.Values.{carried}
 
 module _ {V : Type 0} where
@@ -97,7 +97,7 @@ module _ {V W : Type 0} (f : V → W) (goodV : V → V → Bool) (mixV : ℕ →
   most_carried x [] = refl
   most_carried x (y ∷ ys) =
       let rest = most_carried y ys in
-      elim (which (goodV x (most goodV y ys))) [
+      elim (cases_Bool (goodV x (most goodV y ys))) [
         | inl e ↦ rw (e, sym rest, sym (good_same x (most goodV y ys)) ∙ e)
         | inr e ↦ rw (e, sym rest, sym (good_same x (most goodV y ys)) ∙ e)
       ]

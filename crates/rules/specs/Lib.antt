@@ -1,4 +1,5 @@
 pub mod Values
+pub mod Order
 pub mod Faults
 pub mod Parts
 pub mod Marks

@@ -1,10 +1,12 @@
 -- Parts: numbers of units up to the whole, how they are preferred, and how they are mixed.
 use Rattle.std.specs.Prelude.{ℕ, min, Bool, cond, List, Ok, Err, Result, nat_le}
 use Rattle.std.proofs.Common.{arith}
-use Rattle.theory.specs.Mixes.{whole, greater, lesser}
+use Rattle.theory.specs.Mixes.{whole, greater, lesser, mix_down, mix_up}
 use Rattle.rules.specs.declared.part.Part.{Part}
 use Rattle.rules.specs.declared.preference.Preference.{Preference}
 use Rattle.rules.specs.declared.preference.Preference.TheVariants.{Greater, Lesser}
+use Rattle.rules.specs.declared.rounding.Rounding.{Rounding}
+use Rattle.rules.specs.declared.rounding.Rounding.TheVariants.{Down, Up}
 use Rattle.rules.specs.declared.fault.PartFault.{PartFault}
 use Rattle.rules.specs.declared.fault.PartFault.TheVariants.{Units}
 use Rattle.rules.specs.Values.{carried}
@@ -29,6 +31,11 @@ prefers_number Lesser = lesser
 -- is the part a at least as preferred as b? Parts are preferred by their units
 abbrev pub prefers_part : Preference → Part → Part → Bool
 prefers_part p a b = prefers_number p (units_of a) (units_of b)
+
+-- the mix of numbers, rounded down or up
+abbrev pub mix_rounded : Rounding → ℕ → List (ℕ × ℕ) → ℕ
+mix_rounded Down = mix_down
+mix_rounded Up = mix_up
 
 -- a mix of numbers, of the units of parts
 abbrev pub in_parts : (ℕ → List (ℕ × ℕ) → ℕ) → ℕ → List (ℕ × Part) → Part

@@ -6,13 +6,15 @@ use Rattle.std.proofs.lemmas.Nat.{div_below}
 use Rattle.model.specs.Mdp.{Mdp, Lawful}
 use Rattle.theory.specs.Rules.{RuleLaws, LawfulMix, total_weight}
 use Rattle.theory.specs.Rounds.{rounds}
-use Rattle.theory.specs.Mixes.{whole, sum_of, mix_down, mix_up}
+use Rattle.theory.specs.Mixes.{whole, sum_of}
 use Rattle.theory.proofs.RuleLaws.{down_greater, down_lesser, up_greater, up_lesser}
 use Rattle.rules.specs.declared.part.Part.{Part}
+use Rattle.rules.specs.declared.rounding.Rounding.{Rounding}
+use Rattle.rules.specs.declared.rounding.Rounding.TheVariants.{Down, Up}
 use Rattle.rules.specs.declared.preference.Preference.{Preference}
 use Rattle.rules.specs.declared.preference.Preference.TheVariants.{Greater, Lesser}
 use Rattle.rules.specs.Values.{carried}
-use Rattle.rules.specs.Parts.{units_of, prefers_number, prefers_part, in_parts}
+use Rattle.rules.specs.Parts.{units_of, prefers_number, prefers_part, mix_rounded, in_parts}
 use Rattle.rules.specs.Carried.{carried_laws, rounds_carried}
 
 -- a part of n units, with the proof that n is at most the whole
@@ -40,60 +42,32 @@ sum_bound (p ∷ ps) =
 pub quotient_bound : (d n : ℕ) → 1 ≤ d → n < (whole + 1) * d → n / d ≤ whole
 quotient_bound d n h k = omega (arith, div_below n d (whole + 1) h (omega arith))
 
--- a mix of numbers that stays within the whole for parts
-abbrev Bounded : (ℕ → List (ℕ × ℕ) → ℕ) → Type 0
-Bounded mix = (d : ℕ) (ps : List (ℕ × Part)) → LawfulMix d ps → mix d (carried units_of ps) ≤ whole
-
--- rounded down it does
-down_bounded : Bounded mix_down
-down_bounded d ps l =
+-- a mix of numbers stays within the whole for parts, however it is rounded
+rounded_bounded : (r : Rounding) (d : ℕ) (ps : List (ℕ × Part)) → LawfulMix d ps → mix_rounded r d (carried units_of ps) ≤ whole
+rounded_bounded Down d ps l =
     let some = l.some_unit in
     quotient_bound d (sum_of (carried units_of ps)) some (omega (arith, sum_bound ps, ap (λ n. whole * n) l.sums))
-
--- and rounded up
-up_bounded : Bounded mix_up
-up_bounded d ps l =
+rounded_bounded Up d ps l =
     let some = l.some_unit in
     quotient_bound d (sum_of (carried units_of ps) + (d - 1)) some (omega (arith, sum_bound ps, ap (λ n. whole * n) l.sums))
 
-module _ (mix : ℕ → List (ℕ × ℕ) → ℕ) (bounded : Bounded mix) (laws : (p : Preference) → RuleLaws (prefers_number p) mix) (p : Preference) where
+-- numbers are a rule with either rounding and either preference
+pub numbers_lawful : (r : Rounding) (p : Preference) → RuleLaws (prefers_number p) (mix_rounded r)
+numbers_lawful Down Greater = down_greater
+numbers_lawful Down Lesser = down_lesser
+numbers_lawful Up Greater = up_greater
+numbers_lawful Up Lesser = up_lesser
+
+module _ (r : Rounding) (p : Preference) where
   -- the units of a mix of parts are the mix of their units
-  units_mixed : (d : ℕ) (ps : List (ℕ × Part)) → LawfulMix d ps → units_of (in_parts mix d ps) ≡ mix d (carried units_of ps)
-  units_mixed d ps l = omega (arith, bounded d ps l)
+  units_mixed : (d : ℕ) (ps : List (ℕ × Part)) → LawfulMix d ps → units_of (in_parts (mix_rounded r) d ps) ≡ mix_rounded r d (carried units_of ps)
+  units_mixed d ps l = omega (arith, rounded_bounded r d ps l)
 
-  -- a rule of numbers that stays within the whole is a rule of parts
-  parts_laws : RuleLaws (prefers_part p) (in_parts mix)
-  parts_laws = carried_laws units_of (prefers_part p) (in_parts mix) (prefers_number p) mix (λ a b. refl) units_mixed (laws p) part_same
+  -- parts keep the laws
+  pub parts_lawful : RuleLaws (prefers_part p) (in_parts (mix_rounded r))
+  parts_lawful = carried_laws units_of (prefers_part p) (in_parts (mix_rounded r)) (prefers_number p) (mix_rounded r) (λ a b. refl) units_mixed (numbers_lawful r p) part_same
 
-  -- and rounds of parts are rounds of their units
-  parts_rounds : (m : Mdp) → Lawful m → (v : ℕ → Part) (k s : ℕ) → s < m.states →
-      units_of (rounds (prefers_part p) (in_parts mix) k m v s) ≡ rounds (prefers_number p) mix k m (λ t. units_of (v t)) s
-  parts_rounds = rounds_carried units_of (prefers_part p) (in_parts mix) (prefers_number p) mix (λ a b. refl) units_mixed (laws p)
-
--- numbers rounded down are a rule with either preference
-pub numbers_down : (p : Preference) → RuleLaws (prefers_number p) mix_down
-numbers_down Greater = down_greater
-numbers_down Lesser = down_lesser
-
--- numbers rounded up too
-pub numbers_up : (p : Preference) → RuleLaws (prefers_number p) mix_up
-numbers_up Greater = up_greater
-numbers_up Lesser = up_lesser
-
--- parts rounded down keep the laws
-pub down_lawful : (p : Preference) → RuleLaws (prefers_part p) (in_parts mix_down)
-down_lawful = parts_laws mix_down down_bounded numbers_down
-
--- parts rounded up keep the laws
-pub up_lawful : (p : Preference) → RuleLaws (prefers_part p) (in_parts mix_up)
-up_lawful = parts_laws mix_up up_bounded numbers_up
-
--- rounds of parts rounded down are the theory's rounds of their units
-pub down_rounds : (p : Preference) (m : Mdp) → Lawful m → (v : ℕ → Part) (k s : ℕ) → s < m.states →
-    units_of (rounds (prefers_part p) (in_parts mix_down) k m v s) ≡ rounds (prefers_number p) mix_down k m (λ t. units_of (v t)) s
-down_rounds = parts_rounds mix_down down_bounded numbers_down
-
--- so are those of parts rounded up
-pub up_rounds : (p : Preference) (m : Mdp) → Lawful m → (v : ℕ → Part) (k s : ℕ) → s < m.states →
-    units_of (rounds (prefers_part p) (in_parts mix_up) k m v s) ≡ rounds (prefers_number p) mix_up k m (λ t. units_of (v t)) s
-up_rounds = parts_rounds mix_up up_bounded numbers_up
+  -- rounds of parts are the theory's rounds of their units
+  pub parts_rounds : (m : Mdp) → Lawful m → (v : ℕ → Part) (k s : ℕ) → s < m.states →
+      units_of (rounds (prefers_part p) (in_parts (mix_rounded r)) k m v s) ≡ rounds (prefers_number p) (mix_rounded r) k m (λ t. units_of (v t)) s
+  parts_rounds = rounds_carried units_of (prefers_part p) (in_parts (mix_rounded r)) (prefers_number p) (mix_rounded r) (λ a b. refl) units_mixed (numbers_lawful r p)

@@ -4,7 +4,7 @@ ghost use Rattle.rules.specs.Faults.{fault_number};
 // Why a part is not made: it would be more than the whole.
 #[derive(Clone, Copy, PartialEq, Eq, Debug)]
 pub enum PartFault {
-    Units,
+    Units = 39,
 }
 
 impl PartFault {
@@ -12,8 +12,6 @@ impl PartFault {
     pub fn number(&self) -> u8
         ensures { result ≡ fault_number self.now }
     {
-        match *self {
-            PartFault::Units => 39,
-        }
+        *self as u8
     }
 }

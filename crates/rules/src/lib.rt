@@ -1,4 +1,4 @@
-// Value rules: the trait that every rule implements, parts rounded down, parts rounded up, and marks.
+// Value rules: the trait that every rule implements, parts, rounded down or up, and marks.
 // It may use the crates model and theory.
 #![tactic(auto)]
 
@@ -6,9 +6,9 @@ pub mod fault;
 pub mod marks;
 mod order;
 pub mod part;
-pub mod parts_down;
-pub mod parts_up;
+pub mod parts;
 pub mod preference;
+pub mod rounding;
 pub mod rule;
 mod sum;
 pub mod units;

@@ -22,18 +22,10 @@ impl Rule for Marks {
     ghost lawful = { λ x. marks_lawful x.preference };
 
     fn prefers(&self, a: bool, b: bool) -> bool {
-        match self.preference {
-            Preference::Greater => a || !b,
-            Preference::Lesser => !a || b,
-        }
+        self.preference.prefers(a, b)
     }
 
     fn mix(&self, _denominator: u32, row: &[Branch], values: &[bool]) -> bool {
-        for branch in row {
-            if values[branch.target] {
-                return true;
-            }
-        }
-        false
+        row.iter().any(|branch| values[branch.target])
     }
 }

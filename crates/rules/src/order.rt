@@ -1,17 +1,16 @@
 ghost use Rattle.std.specs.Prelude.{◌≡◌};
-ghost use Rattle.rules.specs.Parts.{prefers_part};
+ghost use Rattle.rules.specs.Order.{at_least_as_preferred};
 
-use crate::part::Part;
 use crate::preference::Preference;
 
 impl Preference {
-    // Is the part `a` at least as preferred as `b`?
-    pub(crate) fn prefers_part(self, a: Part, b: Part) -> bool
-        ensures { result ≡ prefers_part self a b }
+    // Is `a` at least as preferred as `b`, by the order of their type?
+    pub(crate) fn prefers<T: PartialOrd + Drop>(self, a: T, b: T) -> bool
+        ensures { result ≡ at_least_as_preferred T.partial_cmp self a b }
     {
         match self {
-            Preference::Greater => a.units >= b.units,
-            Preference::Lesser => a.units <= b.units,
+            Preference::Greater => a >= b,
+            Preference::Lesser => a <= b,
         }
     }
 }

@@ -17,6 +17,7 @@ pub(crate) fn weighted_sum(denominator: u32, row: &[Branch], values: &[Part]) ->
     ensures bound { result ≤ whole * denominator }
 {
     let mut sum = 0;
+    // a loop over the row's branches, since it knows of each that its target is in range
     for branch in row {
         sum += branch.weight as u64 * values[branch.target].units as u64;
     }

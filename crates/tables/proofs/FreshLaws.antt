@@ -2,17 +2,26 @@
 use Rattle.std.proofs.Common.{◌≡◌, zero, suc, ◌+◌, true, [], ◌∷◌, length, vec_items, decimal, sym, ap, ◌∙◌, arith, lit<}
 use Rattle.std.proofs.lemmas.Fmt.{decimal_digit}
 use Rattle.std.proofs.lemmas.List.{length-map}
+use Rattle.text.specs.Texts.{text_of}
 use Rattle.flat.specs.declared.flat.Flat.{Flat}
 use Rattle.flat.specs.Flats.{content, StartsOk, OffsetsOk}
 use Rattle.flat.specs.Fresh.{FreshFlat, fresh_content}
 use Rattle.tables.specs.Keeps.{keeps}
 
+-- the digits of its two numbers
+zero_digit : decimal 0 ≡ 48 ∷ []
+zero_digit = decimal_digit 0 (lit< tt)
+
+one_digit : decimal 1 ≡ 49 ∷ []
+one_digit = decimal_digit 1 (lit< tt)
+
 -- the content of one state is within the limits
 fresh_keeps : keeps fresh_content ≡ true
-fresh_keeps =
-    let zero_digit : decimal 0 ≡ 48 ∷ [] = decimal_digit 0 (lit< tt) in
-    let one_digit : decimal 1 ≡ 49 ∷ [] = decimal_digit 1 (lit< tt) in
-    rw (zero_digit, one_digit)
+fresh_keeps = rw (zero_digit, one_digit)
+
+-- its text has 24 bytes
+fresh_size : length (text_of fresh_content) ≡ 24
+fresh_size = rw (zero_digit, one_digit)
 
 -- its one state begins at choice 0, and choice 1 is past it
 fresh_starts : StartsOk 1 2 (0 ∷ 1 ∷ [])
@@ -48,3 +57,7 @@ module _ (f : Flat) (e : FreshFlat f) where
   -- the first branches rise
   pub fresh_spanned : OffsetsOk (length (vec_items f.branches)) (vec_items f.offsets)
   fresh_spanned = simp (e.branches, e.offsets) fresh_offsets
+
+  -- the length of their text is that of the fresh text
+  pub fresh_sized : 24 ≡ length (text_of (content f))
+  fresh_sized = sym (ap (λ c. length (text_of c)) fresh_is ∙ fresh_size)

@@ -1,5 +1,5 @@
 pub mod Keeping
 pub mod Spans
 pub mod FreshLaws
-pub mod Writes
-pub mod WritesTexts
+pub mod Pages
+pub mod Pieces

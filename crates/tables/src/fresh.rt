@@ -6,6 +6,9 @@ use crate::tables::Tables;
 use flat::flat::Flat;
 use std::alloc::{AllocError, Global};
 
+// The text of fresh tables.
+const FRESH: &[u8] = b"mdp\t1\t1\ns\t-\nc\nb\t0\t1\nend\n";
+
 impl Tables {
     // Tables of one state, with no labels and one choice back to it. All their room is reserved here, so that no
     // later call wants memory.
@@ -14,6 +17,7 @@ impl Tables {
     {
         let kept = Flat::new(heap)?;
         let draft = Flat::new(heap)?;
-        Ok(Tables { kept, draft })
+        let size = FRESH.len();
+        Ok(Tables { kept, draft, size })
     }
 }

@@ -10,6 +10,7 @@ impl Tables {
     {
         self.draft.read(text)?;
         std::mem::swap(&mut self.kept, &mut self.draft);
+        self.size = text.len();
         Ok(())
     }
 }

@@ -1,9 +1,9 @@
-ghost use Rattle.std.specs.Prelude.{◌≡◌, ◌<◌, length, slice_index};
-ghost use Rattle.model.specs.Mdp.{row, over};
+ghost use Rattle.std.specs.Prelude.{◌≡◌, [], MatchOption};
+ghost use Rattle.model.specs.Mdp.{row};
 ghost use Rattle.text.specs.Contents.{model_of};
 ghost use Rattle.flat.specs.Flats.{content};
 ghost use Rattle.tables.specs.KeepsLaws.{keeps_within};
-ghost use Rattle.tables.specs.Spans.{SpanOf};
+ghost use Rattle.tables.specs.Spans.{Stands};
 
 use crate::tables::Tables;
 use model::branch::Branch;
@@ -25,43 +25,32 @@ impl Source for Tables {
     }
 
     fn labels(&self, state: usize) -> Labels {
-        if state >= self.kept.labels.len() {
-            return Labels {
-                letters: [false; 16],
-            };
-        }
-        self.kept.labels[state]
+        self.kept.labels.get(state).copied().unwrap_or_default()
     }
 
     fn choices(&self, state: usize) -> usize {
         if state < self.kept.labels.len() {
-            entry(&self.kept.starts, state + 1) - entry(&self.kept.starts, state)
+            self.kept.starts[state + 1] - self.kept.starts[state]
         } else {
             0
         }
     }
 
     fn branches(&self, state: usize, choice: usize) -> usize {
-        let (from, to) = self.span(state, choice);
-        to - from
+        self.row(state, choice).len()
     }
 
     fn branch(&self, state: usize, choice: usize, index: usize) -> Branch {
-        let (from, to) = self.span(state, choice);
-        if index < to - from {
-            self.kept.branches[from + index]
-        } else {
-            Branch {
-                target: 0,
-                weight: 0,
-            }
-        }
+        self.row(state, choice)
+            .get(index)
+            .copied()
+            .unwrap_or_default()
     }
 
     fn read_row(&self, state: usize, choice: usize, into: &mut [Branch]) -> usize {
-        let (from, to) = self.span(state, choice);
-        let row = &self.kept.branches.as_slice()[from..to];
-        copy_over(row, into);
+        let row = self.row(state, choice);
+        let count = row.len().min(into.len());
+        into[..count].copy_from_slice(&row[..count]);
         row.len()
     }
 
@@ -71,45 +60,30 @@ impl Source for Tables {
         choice: usize,
         buffer: &'b mut [Branch],
     ) -> &'b [Branch] {
-        let (from, to) = self.span(state, choice);
-        let count = (to - from).min(buffer.len());
-        &self.kept.branches.as_slice()[from..from + count]
+        let row = self.row(state, choice);
+        &row[..row.len().min(buffer.len())]
     }
 }
 
 impl Tables {
-    // Where the branches of a choice stand; of a choice that does not exist, none.
-    fn span(&self, state: usize, choice: usize) -> (usize, usize)
-        ensures { SpanOf self.now.kept.branches.items (row (model_of (content self.now.kept)) state choice) result.0 result.1 }
+    // The number of a choice among those of all states, if there is such a choice.
+    fn choice_number(&self, state: usize, choice: usize) -> Option<usize>
+        ensures { MatchOption result (row (model_of (content self.now.kept)) state choice ≡ []) (Stands self.now.kept (row (model_of (content self.now.kept)) state choice)) }
     {
-        if state >= self.kept.labels.len() {
-            return (0, 0);
+        if choice < self.choices(state) {
+            Some(self.kept.starts[state] + choice)
+        } else {
+            None
         }
-        let first = entry(&self.kept.starts, state);
-        let past = entry(&self.kept.starts, state + 1);
-        if choice >= past - first {
-            return (0, 0);
-        }
-        let at = first + choice;
-        (
-            entry(&self.kept.offsets, at),
-            entry(&self.kept.offsets, at + 1),
-        )
     }
-}
 
-// One entry of a list of numbers.
-pub(crate) fn entry(list: &Vec<usize>, index: usize) -> usize
-    requires { index < length list.now.items }
-    ensures { result ≡ slice_index list.now.items index }
-{
-    list[index]
-}
-
-// Writes `from` over the front of `into`, as much as fits.
-fn copy_over(from: &[Branch], into: &mut [Branch])
-    ensures { into.new ≡ over from.now into.old }
-{
-    let count = from.len().min(into.len());
-    into[..count].copy_from_slice(&from[..count]);
+    // The branches of a choice; of a choice that does not exist, none.
+    pub(crate) fn row(&self, state: usize, choice: usize) -> &[Branch]
+        ensures { result.now ≡ row (model_of (content self.now.kept)) state choice }
+    {
+        let Some(at) = self.choice_number(state, choice) else {
+            return &[];
+        };
+        &self.kept.branches[self.kept.offsets[at]..self.kept.offsets[at + 1]]
+    }
 }

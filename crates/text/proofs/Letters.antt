@@ -1,67 +1,31 @@
 -- Which beginning of a field is a lawful set of labels, and which set it writes.
-use Rattle.std.proofs.Common.{◌≡◌, ℕ, zero, suc, ◌+◌, ◌-◌, ◌<◌, ◌≤◌, true, false, ◌&&◌, ◌||◌, eqb, leb, ◌⊎◌, List, [], ◌∷◌, ◌++◌, length, get_or, take, drop, set, sym, refl, ap, ◌∙◌, inl, inr, ⊎_elim, append_assoc, append-nil, arith}
-use mathlib.Core.Bool.{or-true, or-false, or_assoc}
-use Rattle.std.proofs.lemmas.List.{length-take-le, get_or-take, take_more, take-take, take-append-drop, drop_more}
-use Rattle.std.proofs.lemmas.Bool.{and_parts, and_from, and_left, and_right, or_from, or_cases, leb-true, le-leb, lt-leb, eqb-true, eq-eqb, ne_eqb, cases_lt, cases_eq}
-use Rattle.text.specs.Fields.{between, ascending, lawful_labels, among, flags_from, labels_of, longest}
+use Rattle.std.proofs.Common.{◌≡◌, ℕ, None, Some, Option, Bor, zero, suc, ◌+◌, ◌-◌, ◌<◌, ◌≤◌, Bool, map, true, false, eqb, List, [], ◌∷◌, length, get_or, take, sym, refl, ap, subst, ltb, ◌∙◌, inr, ⊎_elim, add-one, arith}
+use Rattle.std.proofs.lemmas.List.{length-take-le, length-append, nil_from_length, get_or-take}
+use Rattle.std.proofs.lemmas.Bool.{and_parts, and_from, or_from, ltb-true, ltb-false, cases_Bool, ne_eqb, cases_lt, cases_eq}
+use Rattle.std.specs.Fn.{Called, ComputesOnPairs}
+use Rattle.std.specs.Array.{IsFromFnResult, IsFromFnResultFrom}
+use Rattle.std.specs.List.{range_with_len, IsChunkByPrefix, prefix_len, starts_with}
+use Rattle.std.proofs.lemmas.List.FromFn.{fill_by_all}
+use Rattle.std.proofs.lemmas.List.Sums.{prefix_len-le-length, prefix_len_passes, prefix_len_stops}
+use Rattle.std.proofs.lemmas.Bool.Decides.{nat_tests}
+use Rattle.std.proofs.Math.Seq.{take-append_seam}
+use Rattle.std.specs.Option.{unwrap_or}
+use Rattle.std.specs.Slice.Iter.{chunk_by_steps, chunk_by_rest, chunk_by_callee}
+use Rattle.std.specs.declared.slice.ChunkBy.{ChunkBy}
+use denote.Param.Members.{Mut}
+use Rattle.text.specs.Fields.{between, ascending, lawful_labels, longest}
 use Rattle.text.proofs.Longest.{longest_is}
-
--- what does not start with `-` is lawful just if it ascends from a
-letters_only : (w : List ℕ) → 0 < length w → (get_or w 0 0 ≡ 45 → ⊥) → lawful_labels w ≡ ascending 97 w
-letters_only [] some no_dash = absurd (omega (arith, some))
-letters_only (c ∷ cs) some no_dash = ap (λ z. (z && eqb (length cs) 0) || ascending 97 (c ∷ cs)) (ne_eqb c 45 no_dash)
-
--- the first n bytes are letters: with any further ones they ascend from a just if those ascend from `low`
-pub record Begun (xs : List ℕ) (n low : ℕ) : Type 0 where
-  pub onward : (more : List ℕ) → ascending 97 (take n xs ++ more) ≡ ascending low more
-  pub no_dash : 0 < length xs → get_or xs 0 0 ≡ 45 → ⊥
-
--- one letter more
-pub begun_more : (xs : List ℕ) (n low : ℕ) → Begun xs n low → n < length xs → low ≤ get_or xs n 0 → get_or xs n 0 ≤ 112 → Begun xs (n + 1) (get_or xs n 0 + 1)
-begun_more xs n low s l lo hi =
-    let c = get_or xs n 0 in
-    record {
-      onward = λ more.
-          ap (λ z. ascending 97 (z ++ more)) (take_more xs n 0 l)
-          ∙ ap (ascending 97) (append_assoc (take n xs) (c ∷ []) more)
-          ∙ s.onward (c ∷ more)
-          ∙ ap (λ z. z && ascending (c + 1) more) (and_from (leb low c) (leb c 112) (le-leb low c lo) (le-leb c 112 hi));
-      no_dash = s.no_dash;
-    }
-
--- letters, up to a byte that does not go on, are the longest set
-pub length_begun : (xs : List ℕ) (n low : ℕ) → n ≤ length xs → Begun xs n low → (n < length xs → (get_or xs n 0 < low) ⊎ (112 < get_or xs n 0)) → longest lawful_labels xs ≡ n
-length_begun xs n low l s stop =
-    longest_is lawful_labels xs n l
-    (⊎_elim
-    (λ h. inr (only n h l ∙ ap (ascending 97) (sym (append-nil (take n xs))) ∙ s.onward []))
-    (λ h. inl (omega (arith, h)))
-    (cases_lt 0 n))
-    (λ k a b.
-    only k (omega (arith, a)) b
-    ∙ ap (ascending 97) (split k a b)
-    ∙ s.onward (c ∷ drop (n + 1) (take k xs))
-    ∙ ap (λ z. z && ascending (c + 1) (drop (n + 1) (take k xs))) (⊎_elim (λ h. and_left (leb low c) (leb c 112) (lt-leb low c h)) (λ h. and_right (leb low c) (leb c 112) (lt-leb c 112 h)) (stop (omega (arith, a, b)))))
-  where
-    c : ℕ
-    c = get_or xs n 0
-
-    only : (k : ℕ) → 0 < k → k ≤ length xs → lawful_labels (take k xs) ≡ ascending 97 (take k xs)
-    only k some b = letters_only (take k xs) (omega (arith, length-take-le k xs b, some)) (λ e. s.no_dash (omega (arith, some, b)) (sym (get_or-take k xs 0 0 some) ∙ e))
-
-    split : (k : ℕ) → n < k → k ≤ length xs → take k xs ≡ take n xs ++ (get_or xs n 0 ∷ drop (n + 1) (take k xs))
-    split k a b =
-        sym (take-append-drop n (take k xs))
-        ∙ ap (λ z. z ++ drop n (take k xs)) (take-take n k xs (omega (arith, a)))
-        ∙ ap (λ z. take n xs ++ z) (drop_more (take k xs) n 0 (omega (arith, a, length-take-le k xs b)))
-        ∙ ap (λ z. take n xs ++ (z ∷ drop (n + 1) (take k xs))) (get_or-take k xs n 0 a)
+use Rattle.text.proofs.Ranges.{between_true, between_from}
 
 -- after `-` nothing more is read
-pub length_dash : (xs : List ℕ) → 0 < length xs → get_or xs 0 0 ≡ 45 → longest lawful_labels xs ≡ 1
-length_dash [] l e = absurd (omega (arith, l))
-length_dash (x ∷ xs) l e =
-    longest_is lawful_labels (x ∷ xs) 1 (omega arith) (inr (ap (λ z. lawful_labels (z ∷ [])) e)) (λ k a b. longer k a b)
+pub length_dash : (xs : List ℕ) → starts_with eqb xs (45 ∷ []) ≡ true → longest lawful_labels xs ≡ 1
+length_dash [] t = absurd (cc)
+length_dash (x ∷ xs) t =
+    longest_is lawful_labels (x ∷ xs) 1 (omega arith) (inr (ap (λ z. lawful_labels (z ∷ [])) e)) longer
   where
+    e : x ≡ 45
+    e = grind (arith, nat_tests)
+
     longer : (k : ℕ) → 1 < k → k ≤ length (x ∷ xs) → lawful_labels (take k (x ∷ xs)) ≡ false
     longer zero a b = absurd (omega (arith, a))
     longer (suc k) a b =
@@ -72,8 +36,8 @@ length_dash (x ∷ xs) l e =
 ascending_parts : (low c : ℕ) (cs : List ℕ) → ascending low (c ∷ cs) ≡ true → (low ≤ c) × (c ≤ 112) × (ascending (c + 1) cs ≡ true)
 ascending_parts low c cs t =
     let p = and_parts (between low 112 c) (ascending (c + 1) cs) t in
-    let b = and_parts (leb low c) (leb c 112) p.0 in
-    (leb-true low c b.0, leb-true c 112 b.1, p.1)
+    let b = between_true low 112 c p.0 in
+    (b.0, b.1, p.1)
 
 -- so is each of them
 ascending_at : (low : ℕ) (xs : List ℕ) (i : ℕ) → ascending low xs ≡ true → i < length xs → (low ≤ get_or xs i 0) × (get_or xs i 0 ≤ 112)
@@ -84,60 +48,92 @@ ascending_at low (c ∷ cs) (suc i) t l =
     let h = ascending_at (c + 1) cs i p.2 (omega (arith, l)) in
     (omega (arith, h.0, p.0), h.1)
 
--- each byte of a lawful set is `-` or a letter from a to p
-pub labels_at : (xs : List ℕ) (i : ℕ) → lawful_labels xs ≡ true → i < length xs → (get_or xs i 0 ≡ 45 → ⊥) → (97 ≤ get_or xs i 0) × (get_or xs i 0 ≤ 112)
-labels_at [] i t l no_dash = absurd (omega (arith, l))
-labels_at (c ∷ cs) i t l no_dash =
+-- of ascending letters each is below the next
+ascending_step : (low : ℕ) (xs : List ℕ) (i : ℕ) → ascending low xs ≡ true → suc i < length xs → get_or xs i 0 < get_or xs (suc i) 0
+ascending_step low [] i t l = absurd (omega arith)
+ascending_step low (c ∷ cs) zero t l = omega (arith, (ascending_at (c + 1) cs 0 (ascending_parts low c cs t).2 (omega arith)).0)
+ascending_step low (c ∷ cs) (suc i) t l = ascending_step (c + 1) cs i (ascending_parts low c cs t).2 (omega arith)
+
+-- and letters up to p of which each is below the next ascend, from the first on
+ascends : (low : ℕ) (xs : List ℕ) → (0 < length xs → low ≤ get_or xs 0 0) → ((k : ℕ) → k < length xs → get_or xs k 0 ≤ 112) → ((k : ℕ) → suc k < length xs → get_or xs k 0 < get_or xs (suc k) 0) → ascending low xs ≡ true
+ascends low [] first small step = refl
+ascends low (c ∷ cs) first small step =
+    and_from (between low 112 c) _ (between_from low 112 c (first (omega arith)) (small 0 (omega arith)))
+    (ascends (c + 1) cs (λ l. omega (arith, step 0 (omega arith))) (λ k l. small (suc k) (omega arith)) (λ k l. step (suc k) (omega arith)))
+
+-- is it a letter from a to p?
+abbrev pub letter : ℕ → Bool
+letter c = between 97 112 c
+
+-- the first n bytes ascend, and no more do
+module _ (xs : List ℕ) (n : ℕ) (some : 0 < n) (within : n ≤ length xs) (run : IsChunkByPrefix ltb xs n) where
+  -- how many of them are letters, up to the first that is none
+  abbrev pub letters : ℕ
+  letters = prefix_len letter (take n xs)
+
+  short : length (take n xs) ≡ n
+  short = length-take-le n xs within
+
+  few : letters ≤ n
+  few = omega (arith, prefix_len-le-length letter (take n xs), short)
+
+  is_letter : (k : ℕ) → k < letters → (97 ≤ get_or xs k 0) × (get_or xs k 0 ≤ 112)
+  is_letter k l =
+      let t = between_true 97 112 (get_or (take n xs) k 0) (prefix_len_passes letter (take n xs) k 0 l) in
+      let e = get_or-take n xs k 0 (omega (arith, l, few)) in
+      (omega (arith, t.0, e), omega (arith, t.1, e))
+
+  -- those letters ascend
+  front : ascending 97 (take letters xs) ≡ true
+  front =
+      let long = length-take-le letters xs (omega (arith, few, within)) in
+      let at = λ (k : ℕ) (l : k < letters). get_or-take letters xs k 0 l in
+      ascends 97 (take letters xs)
+      (λ l. omega (arith, at 0 (omega (arith, l, long)), (is_letter 0 (omega (arith, l, long))).0))
+      (λ k l. omega (arith, at k (omega (arith, l, long)), (is_letter k (omega (arith, l, long))).1))
+      (λ k l. omega (arith, at k (omega (arith, l, long)), at (suc k) (omega (arith, l, long)), ap (λ z. get_or xs z 0) (add-one k), ltb-true _ _ (run.0 k 0 (omega (arith, l, long, few)))))
+
+  -- no longer beginning does: the byte after them is no letter, or not above the one before
+  longer : (k : ℕ) → letters < k → k ≤ length xs → ascending 97 (take k xs) ≡ true → ⊥
+  longer k a b t =
+      let long = length-take-le k xs b in
+      let e = get_or-take k xs letters 0 a in
+      let here = ascending_at 97 (take k xs) letters t (omega (arith, a, long)) in
+      ⊎_elim
+      (λ h. no_letter (get_or (take n xs) letters 0) (prefix_len_stops letter (take n xs) 0 (omega (arith, h, short))) (omega (arith, here.0, e, get_or-take n xs letters 0 h)) (omega (arith, here.1, e, get_or-take n xs letters 0 h)))
+      (λ h.
+      let last : suc (n - 1) ≡ n = omega arith in
+      let up = ascending_step 97 (take k xs) (n - 1) t (omega (arith, long, h, few, a)) in
+      let down = ltb-false _ _ (run.1 (omega (arith, h, few, a, b)) 0) in
+      omega (arith, up, down, ap (λ z. get_or (take k xs) z 0) last, get_or-take k xs (n - 1) 0 (omega (arith, h, a)), get_or-take k xs n 0 (omega (arith, h, few, a))))
+      (cases_lt letters n)
+    where
+      no_letter : (c : ℕ) → letter c ≡ false → 97 ≤ c → c ≤ 112 → ⊥
+      no_letter c f lo hi = grind (arith, nat_tests)
+
+  -- so they are the longest beginning that does
+  pub longest_letters : longest (ascending 97) xs ≡ letters
+  longest_letters =
+      longest_is (ascending 97) xs letters (omega (arith, few, within)) (inr front)
+      (λ k a b. ⊎_elim (λ t. absurd (longer k a b t)) (λ f. f) (cases_Bool (ascending 97 (take k xs))))
+
+-- the first run that `chunk_by` gives is of ascending bytes, so its letters are the longest beginning that ascends
+pub run_letters : {F : Type 0} (g : Mut F (Bor ℕ × (Bor ℕ × Unit {0})) Bool) (s t : ChunkBy ℕ F) (r : Option (Bor (List ℕ))) (d : Bor (List ℕ)) → chunk_by_steps g s r t → ComputesOnPairs g ltb (chunk_by_callee s) → d.now ≡ [] → longest (ascending 97) (chunk_by_rest s) ≡ prefix_len letter (unwrap_or r d).now
+run_letters g s t None d h by e = ap (longest (ascending 97)) (nil_from_length (chunk_by_rest s) h.0) ∙ ap (prefix_len letter) (sym e)
+run_letters g s t (Some x) d h by e =
+    longest_letters (chunk_by_rest s) (length x.now) h.1 (omega (arith, ap length h.0, length-append x.now (chunk_by_rest t))) (h.2 ltb by).1
+    ∙ ap (prefix_len letter) (ap (take (length x.now)) h.0 ∙ take-append_seam x.now (chunk_by_rest t))
+
+-- where each call gives h of its number and leaves the closure, calls at the numbers from i on gave h of each
+called_at : {F : Type 0} (g : Mut F (ℕ × Unit {0}) Bool) (f : F) (h : ℕ → Bool) → ((i : ℕ) (y : Bool) (q : F) → Called g f (i, tt) y q → (q ≡ f) × (y ≡ h i)) → (ys : List Bool) (i n : ℕ) → IsFromFnResultFrom g f ys i n → (k : ℕ) → i ≤ k → k < i + n → get_or ys k false ≡ h k
+called_at g f h call ys i zero r k lo hi = absurd (omega arith)
+called_at g f h call ys i (suc n) (q, y, at, now, later) k lo hi =
+    let same = call i y q now in
     ⊎_elim
-    (λ d.
-    let p = and_parts (eqb c 45) (eqb (length cs) 0) d in
-    let first : i ≡ 0 = omega (arith, l, eqb-true (length cs) 0 p.1) in
-    absurd (no_dash (ap (λ z. get_or (c ∷ cs) z 0) first ∙ eqb-true c 45 p.0)))
-    (λ a. ascending_at 97 (c ∷ cs) i a l)
-    (or_cases (eqb c 45 && eqb (length cs) 0) (ascending 97 (c ∷ cs)) t)
+    (λ e. ap (λ z. get_or ys z false) (sym e) ∙ at.1 false ∙ same.1 ∙ ap h e)
+    (λ e. called_at g f h call ys (i + 1) n (subst (λ z. IsFromFnResultFrom g z ys (i + 1) n) same.0 later) k (omega (arith, e, lo)) (omega (arith, hi)))
+    (cases_eq i k)
 
--- what is among the bytes, with one byte more
-among_push : (letter : ℕ) (xs : List ℕ) (c : ℕ) → among letter (xs ++ (c ∷ [])) ≡ (among letter xs || eqb c letter)
-among_push letter [] c = or-false (eqb c letter)
-among_push letter (x ∷ xs) c =
-    ap (λ z. eqb x letter || z) (among_push letter xs c) ∙ sym (or_assoc (eqb x letter) (among letter xs) (eqb c letter))
-
-among_other : (letter : ℕ) (xs : List ℕ) (c : ℕ) → (c ≡ letter → ⊥) → among letter (xs ++ (c ∷ [])) ≡ among letter xs
-among_other letter xs c other =
-    among_push letter xs c ∙ ap (λ z. among letter xs || z) (ne_eqb c letter other) ∙ or-false (among letter xs)
-
-among_same : (letter : ℕ) (xs : List ℕ) (c : ℕ) → c ≡ letter → among letter (xs ++ (c ∷ [])) ≡ true
-among_same letter xs c same =
-    among_push letter xs c ∙ ap (λ z. among letter xs || z) (eq-eqb c letter same) ∙ or-true (among letter xs)
-
--- a byte before the letters leaves their flags
-flags_before : (letter count : ℕ) (xs : List ℕ) (c : ℕ) → c < letter → flags_from letter count (xs ++ (c ∷ [])) ≡ flags_from letter count xs
-flags_before letter zero xs c l = refl
-flags_before letter (suc count) xs c l =
-    ap (λ z. z ∷ flags_from (letter + 1) count (xs ++ (c ∷ []))) (among_other letter xs c (λ e. omega (arith, e, l)))
-    ∙ ap (λ z. among letter xs ∷ z) (flags_before (letter + 1) count xs c (omega (arith, l)))
-
--- a letter sets its flag
-flags_push : (letter count : ℕ) (xs : List ℕ) (c : ℕ) → letter ≤ c → flags_from letter count (xs ++ (c ∷ [])) ≡ set (flags_from letter count xs) (c - letter) true
-flags_push letter zero xs c l = refl
-flags_push letter (suc count) xs c l =
-    ⊎_elim
-    (λ e.
-    let here : 0 ≡ c - letter = omega (arith, e) in
-    ap (λ z. z ∷ flags_from (letter + 1) count (xs ++ (c ∷ []))) (among_same letter xs c e)
-    ∙ ap (λ z. true ∷ z) (flags_before (letter + 1) count xs c (omega (arith, e)))
-    ∙ ap (λ z. set (flags_from letter (suc count) xs) z true) here)
-    (λ e.
-    let later : suc (c - (letter + 1)) ≡ c - letter = omega (arith, e, l) in
-    ap (λ z. z ∷ flags_from (letter + 1) count (xs ++ (c ∷ []))) (among_other letter xs c e)
-    ∙ ap (λ z. among letter xs ∷ z) (flags_push (letter + 1) count xs c (omega (arith, e, l)))
-    ∙ ap (λ z. set (flags_from letter (suc count) xs) z true) later)
-    (cases_eq c letter)
-
--- the set with a letter more
-pub labels_letter : (xs : List ℕ) (i : ℕ) → i < length xs → 97 ≤ get_or xs i 0 → labels_of (take (i + 1) xs) ≡ set (labels_of (take i xs)) (get_or xs i 0 - 97) true
-labels_letter xs i l letter = ap labels_of (take_more xs i 0 l) ∙ flags_push 97 16 (take i xs) (get_or xs i 0) letter
-
--- the set with `-` more, which is no letter
-pub labels_dash : (xs : List ℕ) (i : ℕ) → i < length xs → get_or xs i 0 ≡ 45 → labels_of (take (i + 1) xs) ≡ labels_of (take i xs)
-labels_dash xs i l dash = ap labels_of (take_more xs i 0 l) ∙ flags_before 97 16 (take i xs) (get_or xs i 0) (omega (arith, dash))
+-- so the calls gave the list of h
+pub from_calls : {F : Type 0} (g : Mut F (ℕ × Unit {0}) Bool) (f : F) (h : ℕ → Bool) → ((i : ℕ) (y : Bool) (q : F) → Called g f (i, tt) y q → (q ≡ f) × (y ≡ h i)) → (ys : List Bool) (n : ℕ) → IsFromFnResult g f ys n → ys ≡ map h (range_with_len 0 n)
+from_calls g f h call ys n r = fill_by_all h ys n false r.long (λ k l. called_at g f h call ys 0 n r.each k (omega arith) (omega arith))

@@ -1,5 +1,6 @@
 pub mod Cutting
 pub mod Spellings
 pub mod Longest
+pub mod Ranges
 pub mod Digits
 pub mod Letters

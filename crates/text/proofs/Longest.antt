@@ -1,7 +1,7 @@
 -- The longest beginning of a list that passes a test.
-use Rattle.std.proofs.Common.{◌≡◌, ℕ, zero, suc, ◌<◌, ◌≤◌, Bool, true, false, ◌⊎◌, List, [], length, take, sym, refl, ap, ◌∙◌, inl, inr, ⊎_elim, arith}
-use Rattle.std.proofs.lemmas.List.{take_all, nil_from_length}
-use Rattle.std.proofs.lemmas.Bool.{cond-true, cond-false, cond_both, cases_lt, cases_Bool}
+use Rattle.std.proofs.Common.{◌≡◌, ℕ, zero, suc, ◌<◌, ◌≤◌, Bool, true, false, ◌⊎◌, List, length, take, sym, refl, ap, ◌∙◌, inl, inr, ⊎_elim, arith}
+use Rattle.std.proofs.lemmas.List.{take_all}
+use Rattle.std.proofs.lemmas.Bool.{cond-true, cond-false, cond_both, cases_lt}
 use Rattle.text.specs.Fields.{longest_within, longest}
 
 module _ (test : List ℕ → Bool) (xs : List ℕ) where
@@ -29,13 +29,3 @@ module _ (test : List ℕ → Bool) (xs : List ℕ) where
   pub whole_passes : 0 < longest test xs → length xs ≤ longest test xs → test xs ≡ true
   whole_passes some all =
       ⊎_elim (λ z. absurd (omega (arith, z))) (λ t. ap test (sym (take_all (longest test xs) xs all)) ∙ t) (within_passes (length xs))
-
-  -- the whole fails, if no beginning passes, or the longest that does is shorter; the test fails the empty list
-  pub whole_fails : test [] ≡ false → (longest test xs ≡ 0) ⊎ (longest test xs < length xs) → test xs ≡ false
-  whole_fails empty short =
-      ⊎_elim
-      (λ t.
-      let all = longest_is (length xs) (omega arith) (inr (ap test (take_all (length xs) xs (omega arith)) ∙ t)) (λ k a b. absurd (omega (arith, a, b))) in
-      ⊎_elim (λ z. ap test (nil_from_length xs (sym all ∙ z)) ∙ empty) (λ l. absurd (omega (arith, all, l))) short)
-      (λ f. f)
-      (cases_Bool (test xs))

@@ -18,3 +18,6 @@ word_at (a ∷ []) = grind (arith, nat_tests)
 word_at (a ∷ b ∷ []) = grind (arith, nat_tests)
 word_at (a ∷ b ∷ c ∷ []) = grind (arith, nat_tests)
 word_at (a ∷ b ∷ c ∷ d ∷ xs) = grind (arith, nat_tests)
+
+-- which word some bytes spell, and what the tests of numbers say
+pub ruleset spellings = (word_at, nat_tests)

@@ -1,5 +1,5 @@
 -- What a model text tells, and the model that it describes.
-use Rattle.std.specs.Prelude.{ℕ, ◌≤◌, Bool, List, [], ◌∷◌, ◌++◌, length, slice_index_or}
+use Rattle.std.specs.Prelude.{ℕ, Bool, List, [], ◌∷◌, ◌++◌, length, slice_index_or}
 use Rattle.model.specs.Mdp.{Mdp, Row, no_labels}
 
 -- what is told of one state: its labels, as sixteen flags, and its choices

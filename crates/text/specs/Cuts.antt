@@ -1,15 +1,11 @@
 -- A text is cut into lines, and a line into fields.
 use Rattle.std.specs.Prelude.{◌≡◌, ℕ, ◌<◌, ◌≤◌, cond, List, [], ◌∷◌, ◌++◌, length, ◌==◌, ◌≢◌, slice_index, slice_index_or}
-
--- one more byte in front of the first piece
-abbrev pub onto : ℕ → List (List ℕ) → List (List ℕ)
-onto x [] = (x ∷ []) ∷ []
-onto x (p ∷ ps) = (x ∷ p) ∷ ps
+use Rattle.std.specs.List.{onto_first}
 
 -- the pieces of a list, cut at each byte `sep`; `last` are the pieces of the empty list
 abbrev pub cut : ℕ → List (List ℕ) → List ℕ → List (List ℕ)
 cut sep last [] = last
-cut sep last (x ∷ xs) = cond (x == sep) ([] ∷ cut sep last xs) (onto x (cut sep last xs))
+cut sep last (x ∷ xs) = cond (x == sep) ([] ∷ cut sep last xs) (onto_first x (cut sep last xs))
 
 -- a line, as the list of its fields; the word is field 0
 abbrev pub Line : Type 0

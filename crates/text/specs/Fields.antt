@@ -1,7 +1,8 @@
 -- The fields of a line: numbers and sets of labels.
-use Rattle.std.specs.Prelude.{◌≡◌, ℕ, zero, suc, ◌+◌, ◌<◌, ◌≤◌, Bool, true, false, cond, not, ◌&&◌, ◌||◌, List, [], ◌∷◌, ◌++◌, length, take, Ok, Err, Result, ◌==◌, nat_le, slice_index}
+use Rattle.std.specs.Prelude.{◌≡◌, ℕ, zero, suc, ◌+◌, Bool, true, false, cond, not, ◌&&◌, ◌||◌, List, [], ◌∷◌, length, take, Ok, Err, Result, ◌==◌, nat_le, slice_index}
 use Rattle.std.specs.Str.Parse.{digits_value}
 use Rattle.std.specs.Str.{all_ascii_digits}
+use Rattle.std.specs.List.{list_any}
 use Rattle.model.specs.declared.labels.Labels.{Labels}
 use Rattle.text.specs.declared.fault.FieldFault.{FieldFault}
 use Rattle.text.specs.declared.fault.FieldFault.TheVariants as fault
@@ -34,8 +35,7 @@ lawful_labels (c ∷ cs) = (c == 45 && length cs == 0) || ascending 97 (c ∷ cs
 
 -- is the letter among the bytes?
 abbrev pub among : ℕ → List ℕ → Bool
-among letter [] = false
-among letter (c ∷ cs) = c == letter || among letter cs
+among letter bytes = list_any (λ c. c == letter) bytes
 
 -- the letters whose flags are set, where the first flag is that of `letter`
 abbrev pub letters_from : ℕ → List Bool → List ℕ

@@ -1,7 +1,6 @@
 -- Which fault a text is refused with: that of the first question whose answer is no.
 use Rattle.std.specs.Prelude.{ℕ, ◌+◌, ◌-◌, Bool, cond, List, [], ◌∷◌, length, Some, None, Option, ◌==◌, nat_le, slice_index}
 use Rattle.text.specs.declared.word.Word.TheVariants as word
-use Rattle.text.specs.declared.fault.FieldFault.{FieldFault}
 use Rattle.text.specs.declared.fault.FieldFault.TheVariants as field_fault
 use Rattle.text.specs.declared.fault.LineFault.{LineFault}
 use Rattle.text.specs.declared.fault.LineFault.TheVariants.{Word, Fields, Field, Range, Order, Sum, States, Choices, Branches}

@@ -1,5 +1,7 @@
 -- The words that lines begin with, and which may follow which.
-use Rattle.std.specs.Prelude.{ℕ, Bool, true, false, cond, ◌&&◌, ◌||◌, List, [], ◌∷◌, Some, None, codes, Option, ◌==◌}
+use Rattle.std.specs.Prelude.{ℕ, Bool, true, false, cond, ◌&&◌, ◌||◌, List, [], ◌∷◌, Some, None, codes, ok_or, Option, Result, ◌==◌}
+use Rattle.text.specs.declared.fault.LineFault.{LineFault}
+use Rattle.text.specs.declared.fault.LineFault.TheVariants as fault
 use Rattle.text.specs.declared.word.Word.{Word}
 use Rattle.text.specs.declared.word.Word.TheVariants.{Mdp, State, Choice, Branch, End}
 
@@ -21,7 +23,12 @@ spelling End = codes "end"
 -- the word that some bytes spell, if any
 abbrev pub word_of : List ℕ → Option Word
 word_of f =
-    cond (same f (codes "mdp")) (Some Mdp) (cond (same f (codes "s")) (Some State) (cond (same f (codes "c")) (Some Choice) (cond (same f (codes "b")) (Some Branch) (cond (same f (codes "end")) (Some End) None))))
+    cond (same f (spelling Mdp)) (Some Mdp)
+    (cond (same f (spelling State)) (Some State) (cond (same f (spelling Choice)) (Some Choice) (cond (same f (spelling Branch)) (Some Branch) (cond (same f (spelling End)) (Some End) None))))
+
+-- what reading a word answers
+abbrev pub word_read : List ℕ → Result Word LineFault
+word_read f = ok_or (word_of f) fault.Word
 
 -- which words may come next after a word, or at the start of the text
 abbrev pub followers : Option Word → List Word

@@ -5,40 +5,24 @@ ghost use Rattle.text.specs.Cuts.{FirstPiece, pieces, piece, fields, field};
 pub fn piece_length(bytes: &[u8], sep: u8) -> usize
     ensures { FirstPiece bytes.now sep result }
 {
-    for (i, byte) in bytes.iter().enumerate() {
-        if *byte == sep {
-            return i;
-        }
-    }
-    bytes.len()
+    bytes
+        .iter()
+        .position(|byte| *byte == sep)
+        .unwrap_or(bytes.len())
 }
 
 // One of the pieces that `sep` parts; empty where there is none.
 pub fn piece(bytes: &[u8], sep: u8, index: usize) -> &[u8]
     ensures { result.now ≡ piece sep index bytes.now }
 {
-    let mut rest = bytes;
-    for _ in 0..index {
-        let length = piece_length(rest, sep);
-        if length == rest.len() {
-            return &[];
-        }
-        rest = &rest[length + 1..];
-    }
-    &rest[0..piece_length(rest, sep)]
+    bytes.split(|byte| *byte == sep).nth(index).unwrap_or(&[])
 }
 
 // How many pieces there are.
 pub fn piece_count(bytes: &[u8], sep: u8) -> usize
     ensures { result ≡ length (pieces sep bytes.now) }
 {
-    let mut count = 1;
-    for byte in bytes {
-        if *byte == sep {
-            count += 1;
-        }
-    }
-    count
+    bytes.split(|byte| *byte == sep).count()
 }
 
 // A field of a line, the word being field 0; empty where there is none.

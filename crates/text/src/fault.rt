@@ -1,10 +1,11 @@
 ghost use Rattle.std.specs.Prelude.{◌≡◌};
-ghost use Rattle.text.specs.Faults.{field_fault_number, line_fault_number, file_fault_number, no_room_number, fault_line, fault_field};
+ghost use Rattle.text.specs.Faults.{field_fault_number, line_fault_number, file_fault_number, no_room_number, fault_line, place, fault_field};
 ghost use Rattle.text.specs.declared.fault.FileFault.TheVariants.{Line};
 ghost use Rattle.text.specs.declared.fault.LineFault.TheVariants.{Field};
 
 // A fault of one field: the number of the field, the word being field 0, and the length of its longest lawful
-// beginning.
+// beginning. A struct of the two with a kind beside them would say no more, and be longer where a fault is made or
+// matched.
 #[derive(Clone, Copy, PartialEq, Eq, Debug)]
 pub enum FieldFault {
     Number { field: usize, length: usize },
@@ -74,10 +75,18 @@ impl FieldFault {
             FieldFault::Labels { .. } => 7,
         }
     }
+
+    // The field, and the length of its longest lawful beginning.
+    fn place(&self) -> (usize, usize)
+        ensures { result ≡ place self.now }
+    {
+        let (FieldFault::Number { field, length } | FieldFault::Labels { field, length }) = self;
+        (*field, *length)
+    }
 }
 
 impl LineFault {
-    // The number of the fault.
+    // The number of the fault, by a match: a fault of a field has that of its kind, so the variants cannot be numbered.
     pub fn number(&self) -> u8
         ensures { result ≡ line_fault_number self.now }
     {
@@ -96,7 +105,7 @@ impl LineFault {
 }
 
 impl FileFault {
-    // The number of the fault.
+    // The number of the fault, by a match: a line's fault has that of its kind.
     pub fn number(&self) -> u8
         ensures { result ≡ file_fault_number self.now }
     {
@@ -109,7 +118,7 @@ impl FileFault {
         }
     }
 
-    // The line of the fault, from 1; 0 for a fault of the whole text.
+    // The line of the fault, from 1; 0 for a fault of the whole text, as the table of refusals has it.
     pub fn line(&self) -> usize
         ensures { result ≡ fault_line self.now }
     {
@@ -126,12 +135,10 @@ impl FileFault {
         match self {
             FileFault::Line(
                 Numbered {
-                    fault: LineFault::Field(
-                        FieldFault::Number { field, length } | FieldFault::Labels { field, length },
-                    ),
+                    fault: LineFault::Field(fault),
                     ..
                 },
-            ) => Some((*field, *length)),
+            ) => Some(fault.place()),
             _ => None,
         }
     }

@@ -1,8 +1,9 @@
 ghost use Rattle.std.specs.Prelude.{◌≡◌};
-ghost use Rattle.text.specs.Fields.{LabelsRead, lawful_labels, longest};
+ghost use Rattle.text.specs.Fields.{LabelsRead, ascending, lawful_labels, longest};
 
 use crate::fault::FieldFault;
 use model::labels::Labels;
+use std::array;
 
 // The set of labels that field `index` of a line writes: letters from a to p in ascending order, or `-` for none.
 pub fn labels(field: &[u8], index: usize) -> Result<Labels, FieldFault>
@@ -15,12 +16,7 @@ pub fn labels(field: &[u8], index: usize) -> Result<Labels, FieldFault>
             length,
         });
     }
-    let mut letters = [false; 16];
-    for byte in field {
-        if *byte != b'-' {
-            letters[(*byte - b'a') as usize] = true;
-        }
-    }
+    let letters = array::from_fn(|i| field.contains(&(b'a' + i as u8)));
     Ok(Labels { letters })
 }
 
@@ -28,15 +24,19 @@ pub fn labels(field: &[u8], index: usize) -> Result<Labels, FieldFault>
 fn labels_length(field: &[u8]) -> usize
     ensures { result ≡ longest lawful_labels field.now }
 {
-    if field.len() > 0 && field[0] == b'-' {
+    if field.starts_with(b"-") {
         return 1;
     }
-    let mut low = b'a';
-    for (i, byte) in field.iter().enumerate() {
-        if *byte < low || *byte > b'p' {
-            return i;
-        }
-        low = *byte + 1;
-    }
-    field.len()
+    letters_length(field)
+}
+
+// How many letters from a to p ascend strictly at the front.
+fn letters_length(field: &[u8]) -> usize
+    ensures { result ≡ longest (ascending 97) field.now }
+{
+    let ascending = field.chunk_by(|x, y| x < y).next().unwrap_or(&[]);
+    ascending
+        .iter()
+        .take_while(|byte| (b'a'..=b'p').contains(*byte))
+        .count()
 }

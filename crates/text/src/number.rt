@@ -2,6 +2,7 @@ ghost use Rattle.std.specs.Prelude.{◌≡◌};
 ghost use Rattle.text.specs.Fields.{lawful_number, longest, number_read};
 
 use crate::fault::FieldFault;
+use std::str;
 
 // The number that field `index` of a line writes: 0, or one to seven digits that do not start with 0.
 pub fn number(field: &[u8], index: usize) -> Result<u32, FieldFault>
@@ -14,23 +15,21 @@ pub fn number(field: &[u8], index: usize) -> Result<u32, FieldFault>
             length,
         });
     }
-    let mut value = 0;
-    for byte in field {
-        value = value * 10 + (*byte - b'0') as u32;
-    }
-    Ok(value)
+    // Digits are text, and seven of them fit.
+    let digits = str::from_utf8(field).unwrap();
+    Ok(digits.parse().unwrap())
 }
 
 // The length of the longest beginning that is a lawful number; 0 where none is.
 fn number_length(field: &[u8]) -> usize
     ensures { result ≡ longest lawful_number field.now }
 {
-    if field.len() > 0 && field[0] == b'0' {
+    if field.starts_with(b"0") {
         return 1;
     }
-    let mut length = 0;
-    while length < field.len() && length < 7 && field[length].is_ascii_digit() {
-        length += 1;
-    }
-    length
+    field
+        .iter()
+        .take(7)
+        .take_while(|byte| byte.is_ascii_digit())
+        .count()
 }

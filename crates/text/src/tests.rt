@@ -5,10 +5,7 @@ use crate::number::number;
 
 // What is read of a set of labels, with the flags in place of the set.
 fn flags(field: &[u8]) -> Result<[bool; 16], FieldFault> {
-    match labels(field, 1) {
-        Ok(set) => Ok(set.letters),
-        Err(fault) => Err(fault),
-    }
+    labels(field, 1).map(|set| set.letters)
 }
 
 // The fault of a number in field 1 whose longest lawful beginning has this length.

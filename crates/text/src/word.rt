@@ -1,5 +1,7 @@
 ghost use Rattle.std.specs.Prelude.{◌≡◌};
-ghost use Rattle.text.specs.Words.{word_of, listed, followers, arity};
+ghost use Rattle.text.specs.Words.{word_read, listed, followers, arity};
+
+use crate::fault::LineFault;
 
 // The word that a line begins with: the kind of its record.
 #[derive(Clone, Copy, PartialEq, Eq, Debug)]
@@ -11,22 +13,28 @@ pub enum Word {
     End,
 }
 
-impl Word {
-    // The word that some bytes spell, if any.
-    pub fn read(field: &[u8]) -> Option<Word>
-        ensures { result ≡ word_of field.now }
-    {
+// The word that some bytes spell; no other bytes are one.
+impl<'a> TryFrom<&'a [u8]> for Word {
+    type Error = LineFault;
+
+    ghost try_from_gives = { λ field r. r ≡ word_read field.now };
+
+    #[tactic(auto, using(crate::proofs::Spellings::spellings))]
+    fn try_from(field: &'a [u8]) -> Result<Word, LineFault> {
         match field {
-            b"mdp" => Some(Word::Mdp),
-            b"s" => Some(Word::State),
-            b"c" => Some(Word::Choice),
-            b"b" => Some(Word::Branch),
-            b"end" => Some(Word::End),
-            _ => None,
+            b"mdp" => Ok(Word::Mdp),
+            b"s" => Ok(Word::State),
+            b"c" => Ok(Word::Choice),
+            b"b" => Ok(Word::Branch),
+            b"end" => Ok(Word::End),
+            _ => Err(LineFault::Word),
         }
     }
+}
 
+impl Word {
     // May a line with this word follow one with the word `last`, or start the text where there is none?
+    // As the loader's rule asks, its state (the last word) and the record's word are matched together.
     pub fn may_follow(self, last: Option<Word>) -> bool
         ensures { result ≡ listed self (followers last) }
     {

@@ -3,7 +3,8 @@ use Rattle.std.proofs.Common.{◌≡◌, ℕ, ◌-◌, ◌^◌, ◌<◌, ◌≤�
 use Rattle.std.proofs.lemmas.List.{append_assoc, get_or_push, length_push}
 use Rattle.std.proofs.lemmas.Bool.{cond-true, cond-false, eq-eqb, ne_eqb}
 use Rattle.model.specs.Mdp.{Row, Each}
-use Rattle.text.specs.Cuts.{Line, onto, cut, fields, each_fields, lines, parted, spelled}
+use Rattle.std.specs.List.{onto_first}
+use Rattle.text.specs.Cuts.{Line, cut, fields, each_fields, lines, parted, spelled}
 use Rattle.text.specs.Contents.{State, Content}
 use Rattle.text.specs.Texts.{end_line, row_lines, choices_lines, states_lines, content_lines, text_of, Within}
 use Rattle.text_laws.proofs.States.{each_map, each_append, LawfulState, lawful_states, Small, small_rows}
@@ -16,12 +17,12 @@ Lacks sep bytes = Each (λ c. c ≡ sep → ⊥) bytes
 -- a piece before a separator is cut off
 cut_front : (sep : ℕ) (last : List (List ℕ)) (xs rest : List ℕ) → Lacks sep xs → cut sep last (xs ++ (sep ∷ rest)) ≡ xs ∷ cut sep last rest
 cut_front sep last [] rest h = cond-true (eqb sep sep) _ _ (eq-eqb sep sep refl)
-cut_front sep last (x ∷ xs) rest h = cond-false (eqb x sep) _ _ (ne_eqb x sep h.0) ∙ ap (onto x) (cut_front sep last xs rest h.1)
+cut_front sep last (x ∷ xs) rest h = cond-false (eqb x sep) _ _ (ne_eqb x sep h.0) ∙ ap (onto_first x) (cut_front sep last xs rest h.1)
 
 -- what has no separator is one piece
 cut_none : (sep : ℕ) (xs : List ℕ) → Lacks sep xs → cut sep ([] ∷ []) xs ≡ xs ∷ []
 cut_none sep [] h = refl
-cut_none sep (x ∷ xs) h = cond-false (eqb x sep) _ _ (ne_eqb x sep h.0) ∙ ap (onto x) (cut_none sep xs h.1)
+cut_none sep (x ∷ xs) h = cond-false (eqb x sep) _ _ (ne_eqb x sep h.0) ∙ ap (onto_first x) (cut_none sep xs h.1)
 
 -- a line with at least one field, each of which is visible
 abbrev pub Clean : Line → Type 0

@@ -2,15 +2,16 @@
 use Rattle.std.proofs.Common.{◌≡◌, ℕ, suc, ◌-◌, ◌≤◌, eqb, List, [], ◌∷◌, ◌++◌, length, get_or, sym, refl, ap, ◌∙◌, ap₂, arith}
 use Rattle.std.proofs.lemmas.Bool.{eqb-true, cond_both}
 use Rattle.text.proofs.Cutting.{some_piece}
-use Rattle.text.specs.Cuts.{onto, cut, fields, each_fields, lines, parted, spelled}
+use Rattle.std.specs.List.{onto_first}
+use Rattle.text.specs.Cuts.{cut, fields, each_fields, lines, parted, spelled}
 
 -- there is a piece after any byte
-some_onto : (x : ℕ) (ps : List (List ℕ)) → 1 ≤ length (onto x ps)
+some_onto : (x : ℕ) (ps : List (List ℕ)) → 1 ≤ length (onto_first x ps)
 some_onto x [] = omega arith
 some_onto x (p ∷ ps) = omega arith
 
 -- one more byte in front of the first field
-parted_onto : (x : ℕ) (ps : List (List ℕ)) → parted (onto x ps) ≡ x ∷ parted ps
+parted_onto : (x : ℕ) (ps : List (List ℕ)) → parted (onto_first x ps) ≡ x ∷ parted ps
 parted_onto x [] = refl
 parted_onto x (p ∷ []) = refl
 parted_onto x (p ∷ q ∷ ps) = refl
@@ -29,7 +30,7 @@ parted_fields (x ∷ xs) =
     (λ e. parted_onto x (fields xs) ∙ ap (λ ys. x ∷ ys) (parted_fields xs))
 
 -- one more byte in front of the first line
-spelled_onto : (x : ℕ) (ps : List (List ℕ)) → 1 ≤ length ps → spelled (each_fields (onto x ps)) ≡ x ∷ spelled (each_fields ps)
+spelled_onto : (x : ℕ) (ps : List (List ℕ)) → 1 ≤ length ps → spelled (each_fields (onto_first x ps)) ≡ x ∷ spelled (each_fields ps)
 spelled_onto x [] h = absurd (omega arith)
 spelled_onto x (p ∷ ps) h = ap (λ bytes. bytes ++ (10 ∷ spelled (each_fields ps))) (parted_fields (x ∷ p) ∙ ap (λ bytes. x ∷ bytes) (sym (parted_fields p)))
 

@@ -1,14 +1,16 @@
 -- Lawful fields are what is written of what they say: words, numbers and labels.
-use Rattle.std.proofs.Common.{◌≡◌, ℕ, zero, suc, ◌+◌, ◌^◌, ◌<◌, ◌≤◌, Bool, true, false, cond, ◌&&◌, ◌||◌, eqb, leb, ◌⊎◌, List, [], ◌∷◌, length, get_or, Some, decimal, Option, sym, refl, ap, ◌∙◌, ap₂, inl, inr, ⊎_elim, arith}
-use Rattle.std.specs.Str.Parse.{digits_value}
+use Rattle.std.proofs.Common.{◌≡◌, ℕ, zero, suc, ◌+◌, ◌^◌, ◌<◌, Bool, true, false, cond, ◌&&◌, ◌||◌, eqb, leb, ◌⊎◌, List, [], ◌∷◌, length, get_or, Some, decimal, Option, sym, refl, ap, ◌∙◌, ap₂, inl, inr, ⊎_elim, arith}
 use Rattle.std.specs.Str.{all_ascii_digits}
+use Rattle.std.proofs.lemmas.List.{nil_from_length}
 use Rattle.std.proofs.lemmas.Fmt.{decimal-digits_value}
-use Rattle.std.proofs.lemmas.Str.Parse.{IsNumeralModel, numerals_by_value, tells_all_ascii_digits, digits_value_short}
-use Rattle.std.proofs.lemmas.Bool.{and_parts, or_cases, both_ways, not-true, eqb-true, eqb-false, ne_eqb, leb-true, le-leb, cond-true, cond-false, cases_Bool, and_from, or_from}
+use Rattle.std.proofs.lemmas.Str.Parse.{digits_value_short}
+use Rattle.std.proofs.lemmas.Bool.{and_parts, or_cases, both_ways, not-true, eqb-true, eqb-false, ne_eqb, le-leb, cond-true, cond-false, cases_Bool, and_from, or_from}
 use Rattle.text.specs.declared.word.Word.{Word}
 use Rattle.text.specs.declared.word.Word.TheVariants.{Mdp, State, Choice, Branch, End}
 use Rattle.text.specs.Fields.{between, lawful_number, amount, ascending, dash, lawful_labels, among, letters_from, or_else, labels_text, flags_from, labels_of}
 use Rattle.text.specs.Words.{same, spelling, word_of}
+use Rattle.text.proofs.Digits.{decimals}
+pub use Rattle.text.proofs.Ranges.{between_true}
 use Rattle.text_laws.proofs.SoundAsks.{some_none}
 
 -- bytes that the test calls the same are the same
@@ -34,22 +36,14 @@ word_spelling f w e = either Mdp _ (either State _ (either Choice _ (either Bran
     either : (v : Word) (rest : Option Word) → (rest ≡ Some w → f ≡ spelling w) → cond (same f (spelling v)) (Some v) rest ≡ Some w → f ≡ spelling w
     either v rest more h = ⊎_elim (λ p. same_true f (spelling v) p.0 ∙ ap spelling p.1) more (some_of _ v w rest h)
 
--- a test of a range that passes
-pub between_true : (low high x : ℕ) → between low high x ≡ true → (low ≤ x) × (x ≤ high)
-between_true low high x e = let p = and_parts (leb low x) (leb x high) e in (leb-true low x p.0, leb-true x high p.1)
-
--- digits are read by the value of their places
-own : IsNumeralModel (λ ds. all_ascii_digits ds ≡ true) (digits_value 10)
-own = numerals_by_value _ tells_all_ascii_digits
-
 -- a lawful number is the writing of its amount
 pub decimal_amount : (w : List ℕ) → lawful_number w ≡ true → decimal (amount w) ≡ w
 decimal_amount w e =
     let p = and_parts (all_ascii_digits w) _ e in
     let q = and_parts (between 1 7 (length w)) _ p.1 in
     let r = between_true 1 7 (length w) q.0 in
-    let small : amount w < 10 ^ 7 = digits_value_short own w 7 p.0 r.1 in
-    decimal-digits_value own w p.0 r.0
+    let small : amount w < 10 ^ 7 = digits_value_short decimals w 7 p.0 r.1 in
+    decimal-digits_value decimals w p.0 r.0
     (λ z. ⊎_elim (eqb-true (length w) 1) (λ n. absurd (eqb-false (get_or w 0 0) 48 (not-true _ n) z)) (or_cases (eqb (length w) 1) _ q.1))
     (omega arith)
 
@@ -105,11 +99,7 @@ labels_text_of (c ∷ cs) e =
     ⊎_elim
     (λ d.
     let p = and_parts (eqb c 45) _ d in
-    let bytes : dash ≡ c ∷ cs = ap₂ (λ x xs. x ∷ xs) (sym (eqb-true c 45 p.0)) (sym (nothing cs (eqb-true (length cs) 0 p.1))) in
+    let bytes : dash ≡ c ∷ cs = ap₂ (λ x xs. x ∷ xs) (sym (eqb-true c 45 p.0)) (sym (nil_from_length cs (eqb-true (length cs) 0 p.1))) in
     ap (λ w. labels_text (labels_of w)) (sym bytes) ∙ bytes)
     (λ a. ap (λ z. or_else z dash) (letters_flags 97 16 (c ∷ cs) refl a))
     (or_cases (eqb c 45 && eqb (length cs) 0) _ e)
-  where
-    nothing : (xs : List ℕ) → length xs ≡ 0 → xs ≡ []
-    nothing [] z = refl
-    nothing (x ∷ xs) z = absurd (omega arith)

@@ -1,20 +1,21 @@
 -- Larger sets never make a tally smaller; only the states count. Next.
-use Rattle.std.proofs.Common.{◌≡◌, ℕ, zero, suc, ◌*◌, ◌^◌, ◌<◌, ◌≤◌, Bool, true, false, cond, ◌||◌, List, [], ◌∷◌, sym, refl, ap, ◌∙◌, inl, inr, le_trans, add-zero, arith, leb-true}
+use Rattle.std.proofs.Common.{◌≡◌, ℕ, zero, suc, ◌*◌, ◌^◌, ◌<◌, ◌≤◌, Bool, true, false, cond, List, [], ◌∷◌, sym, refl, ap, ◌∙◌, inl, inr, le_trans, add-zero, arith, leb-true, div-mul-le_self, mul-le-mul_right}
+use Rattle.std.proofs.lemmas.Bool.{cases_Bool, both_ways}
 use mathlib.Core.Path.{fun_ext}
 use native.Mathlib.Nat.{pow-succ', pow-zero}
+use mathlib.Core.Bool.{or-true}
 use Rattle.model.specs.Mdp.{Mdp, Row, Lawful, Each}
 use Rattle.theory.specs.Adversaries.{Adversary, Allowed, chosen}
 use Rattle.theory.specs.Tallies.{runs, meets, weigh, tally_after, second_in, next_tally}
-use Rattle.theory.specs.Rules.{valued}
+use Rattle.theory.specs.Rules.{valued, RuleLaws}
 use Rattle.theory.specs.Rounds.{value, rounds}
 use Rattle.theory.specs.Mixes.{whole, sum_of, mix_down, mix_up, greater, lesser}
 use Rattle.theory.specs.Ends.{NextEndsBound, start}
-use Rattle.theory.proofs.Lists.{true_not_false, which}
 use Rattle.theory.proofs.Rounds.{row_within, some_adversary, no_adversary}
 use Rattle.theory.proofs.RuleLaws.{down_greater, down_lesser, up_greater, up_lesser}
 use Rattle.theory.proofs.Tallies.{spread, spread_le, spread_mul, weigh_suc}
-use Rattle.theory.proofs.Ends.{rounds_close, greater_close, lesser_close, sum_spread, down_below, up_above}
-use Rattle.theory.proofs.Exact.{mix_sum, one_in, sum_greater, sum_lesser}
+use Rattle.theory.proofs.Ends.{rounds_close, greater_close, lesser_close, up_above}
+use Rattle.theory.proofs.Exact.{mix_sum, one_in}
 
 -- each state of one set lies in the other
 abbrev pub Subset : Mdp → (ℕ → Bool) → (ℕ → Bool) → Type 0
@@ -28,7 +29,7 @@ module _ (m : Mdp) (l : Lawful m) (σ : Adversary) (a : Allowed m σ) where
   -- a property that implies another on paths through states weighs no more
   weigh_below : (k : ℕ) (p q : List ℕ → Bool) (h : List ℕ) (s : ℕ) → s < m.states →
       ((ss : List ℕ) → Each (λ t. t < m.states) ss → p ss ≡ true → q ss ≡ true) → weigh p (runs k m σ h s) ≤ weigh q (runs k m σ h s)
-  weigh_below zero p q h s x f = elim (which (p (s ∷ []))) [
+  weigh_below zero p q h s x f = elim (cases_Bool (p (s ∷ []))) [
     | inl e ↦ rw (e, f (s ∷ []) (x, tt) e) (omega arith)
     | inr e ↦ rw e (omega arith)
   ]
@@ -40,17 +41,13 @@ module _ (m : Mdp) (l : Lawful m) (σ : Adversary) (a : Allowed m σ) where
   meets_below : (left left' right right' : ℕ → Bool) → Subset m left left' → Subset m right right' →
       (ss : List ℕ) → Each (λ t. t < m.states) ss → meets left right ss ≡ true → meets left' right' ss ≡ true
   meets_below left left' right right' f g [] w e = e
-  meets_below left left' right right' f g (s ∷ ss) w e = elim (which (right s)) [
+  meets_below left left' right right' f g (s ∷ ss) w e = elim (cases_Bool (right s)) [
     | inl r ↦ rw (g s w.0 r)
-    | inr r ↦ elim (which (left s)) [
-      | inl q ↦ rw (f s w.0 q, meets_below left left' right right' f g ss w.1 (rw (r, q) at e)) (or_yes (right' s))
-      | inr q ↦ true_not_false false (rw (r, q) at e) refl
+    | inr r ↦ elim (cases_Bool (left s)) [
+      | inl q ↦ rw (f s w.0 q, meets_below left left' right right' f g ss w.1 (rw (r, q) at e)) (or-true (right' s))
+      | inr q ↦ absurd (both_ways false refl (rw (r, q) at e))
     ]
   ]
-    where
-      or_yes : (b : Bool) → (b || true) ≡ true
-      or_yes true = refl
-      or_yes false = refl
 
   -- so the tally of an until grows with its sets
   pub tally_below : (left left' right right' : ℕ → Bool) → Subset m left left' → Subset m right right' →
@@ -82,11 +79,11 @@ module _ (m : Mdp) (l : Lawful m) (σ : Adversary) (a : Allowed m σ) where
 
   -- the weighted sum of the starts is the tally times the whole
   next_is : (set : ℕ → Bool) (s : ℕ) → sum_of (valued (start set) (chosen m σ [] s)) ≡ next_tally set m σ s * whole
-  next_is set s = sum_spread (start set) (chosen m σ [] s) ∙ start_spread set (chosen m σ [] s) ∙ ap (λ n. n * whole) (sym (next_spread set s))
+  next_is set s = start_spread set (chosen m σ [] s) ∙ ap (λ n. n * whole) (sym (next_spread set s))
 
   -- the value rounded down lies at or below the tally
   pub next_down : (set : ℕ → Bool) (s : ℕ) → value mix_down 1 m (start set) σ [] s * m.denominator ^ 1 ≤ next_tally set m σ s * whole
-  next_down set s = rw (next_is set s, pow_one m.denominator) (down_below m.denominator (next_tally set m σ s * whole))
+  next_down set s = rw (next_is set s, pow_one m.denominator) (div-mul-le_self (next_tally set m σ s * whole) m.denominator)
 
   -- the value rounded up lies at or above it
   pub next_up : (set : ℕ → Bool) (s : ℕ) → next_tally set m σ s * whole ≤ value mix_up 1 m (start set) σ [] s * m.denominator ^ 1
@@ -94,34 +91,27 @@ module _ (m : Mdp) (l : Lawful m) (σ : Adversary) (a : Allowed m σ) where
 
   -- the value by plain sums is the tally
   next_sum : (set : ℕ → Bool) (s : ℕ) → value mix_sum 1 m (one_in set) σ [] s ≡ next_tally set m σ s
-  next_sum set s = sum_spread (one_in set) (chosen m σ [] s) ∙ sym (next_spread set s)
+  next_sum set s = sym (next_spread set s)
+
+module _ (prefer : ℕ → ℕ → Bool) (laws : RuleLaws prefer mix_sum) (set : ℕ → Bool) (m : Mdp) (l : Lawful m) (s : ℕ) (p : s < m.states) where
+  -- no adversary's tally of a next is preferred to what one round of plain sums gives
+  pub next_tally_best : (σ : Adversary) → Allowed m σ → prefer (rounds prefer mix_sum 1 m (one_in set) s) (next_tally set m σ s) ≡ true
+  next_tally_best σ a = rw (next_sum m l σ a set s) at (no_adversary prefer mix_sum laws m l (one_in set) 1 s p σ a)
+
+  -- some adversary has that tally
+  pub next_tally_reached : (σ : Adversary) × Allowed m σ × (next_tally set m σ s ≡ rounds prefer mix_sum 1 m (one_in set) s)
+  next_tally_reached = let c = some_adversary prefer mix_sum laws m l (one_in set) 1 s p in (c.0, c.1, sym (next_sum m l c.0 c.1 set s) ∙ c.2)
 
 module _ (set : ℕ → Bool) (m : Mdp) (l : Lawful m) (s : ℕ) (p : s < m.states) where
-  -- next: the largest and the smallest
-  pub next_largest : (σ : Adversary) → Allowed m σ → next_tally set m σ s ≤ rounds greater mix_sum 1 m (one_in set) s
-  next_largest σ a = rw (next_sum m l σ a set s) at (leb-true _ _ (no_adversary greater mix_sum sum_greater m l (one_in set) 1 s p σ a))
-
-  -- no adversary has a smaller tally than the rounds of plain sums tell
-  pub next_smallest : (σ : Adversary) → Allowed m σ → rounds lesser mix_sum 1 m (one_in set) s ≤ next_tally set m σ s
-  next_smallest σ a = rw (next_sum m l σ a set s) at (leb-true _ _ (no_adversary lesser mix_sum sum_lesser m l (one_in set) 1 s p σ a))
-
-  -- some adversary has the largest
-  pub next_largest_is : (σ : Adversary) × Allowed m σ × (next_tally set m σ s ≡ rounds greater mix_sum 1 m (one_in set) s)
-  next_largest_is = let c = some_adversary greater mix_sum sum_greater m l (one_in set) 1 s p in (c.0, c.1, sym (next_sum m l c.0 c.1 set s) ∙ c.2)
-
-  -- some adversary has the smallest
-  pub next_smallest_is : (σ : Adversary) × Allowed m σ × (next_tally set m σ s ≡ rounds lesser mix_sum 1 m (one_in set) s)
-  next_smallest_is = let c = some_adversary lesser mix_sum sum_lesser m l (one_in set) 1 s p in (c.0, c.1, sym (next_sum m l c.0 c.1 set s) ∙ c.2)
-
   -- next: the ends after one round with nothing held
   pub next_none_above : (σ : Adversary) → Allowed m σ → next_tally set m σ s * whole ≤ rounds greater mix_up 1 m (start set) s * m.denominator ^ 1
   next_none_above σ a = le_trans (next_up m l σ a set s)
-      (native.Mathlib.Nat.mul-le-mul_right (m.denominator ^ 1) (leb-true _ _ (no_adversary greater mix_up up_greater m l (start set) 1 s p σ a)))
+      (mul-le-mul_right (m.denominator ^ 1) (leb-true _ _ (no_adversary greater mix_up up_greater m l (start set) 1 s p σ a)))
 
   -- no adversary lies below the lower end for the worst
   pub next_none_below : (σ : Adversary) → Allowed m σ → rounds lesser mix_down 1 m (start set) s * m.denominator ^ 1 ≤ next_tally set m σ s * whole
   next_none_below σ a = le_trans
-      (native.Mathlib.Nat.mul-le-mul_right (m.denominator ^ 1) (leb-true _ _ (no_adversary lesser mix_down down_lesser m l (start set) 1 s p σ a)))
+      (mul-le-mul_right (m.denominator ^ 1) (leb-true _ _ (no_adversary lesser mix_down down_lesser m l (start set) 1 s p σ a)))
       (next_down m l σ a set s)
 
   -- some adversary reaches the lower end for the best

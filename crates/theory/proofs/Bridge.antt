@@ -1,9 +1,9 @@
 -- From a program's lists and loops to the definitions: values in a list, and the best so far.
-use Rattle.std.proofs.Common.{◌≡◌, ℕ, zero, suc, ◌<◌, Bool, false, cond, List, [], ◌∷◌, get_or, refl, ◌∙◌, inl, inr, ⊎_elim}
+use Rattle.std.proofs.Common.{◌≡◌, ℕ, zero, suc, ◌<◌, Bool, false, cond, List, [], ◌∷◌, refl, ◌∙◌, inl, inr, ⊎_elim}
+use Rattle.std.proofs.lemmas.Bool.{cases_Bool, both_ways}
 use Rattle.model.specs.Mdp.{Mdp, Lawful}
 use Rattle.theory.specs.Rules.{RuleLaws}
-use Rattle.theory.specs.Rounds.{most, round, rounds}
-use Rattle.theory.proofs.Lists.{true_not_false, which}
+use Rattle.theory.specs.Rounds.{most, rounds}
 use Rattle.theory.proofs.Rounds.{round_same}
 
 module _ {V : Type 0} (at_least_as_good : V → V → Bool) where
@@ -19,33 +19,26 @@ module _ {V : Type 0} (at_least_as_good : V → V → Bool) (mix : ℕ → List 
   rounds_same m l f g h zero s p = h s p
   rounds_same m l f g h (suc k) s p = round_same at_least_as_good mix laws m l (rounds at_least_as_good mix k m f) (rounds at_least_as_good mix k m g) (λ t q. rounds_same m l f g h k t q) s p
 
-  -- a list that holds the values after k rounds, and the next that a program writes from it
-  pub one_more : (m : Mdp) → Lawful m → (v : ℕ → V) (k : ℕ) (xs ys : List V) (d : V) →
-      ((s : ℕ) → s < m.states → get_or xs s d ≡ rounds at_least_as_good mix k m v s) →
-      ((s : ℕ) → s < m.states → get_or ys s d ≡ round at_least_as_good mix m (λ t. get_or xs t d) s) →
-      (s : ℕ) → s < m.states → get_or ys s d ≡ rounds at_least_as_good mix (suc k) m v s
-  one_more m l v k xs ys d h e s p = e s p ∙ round_same at_least_as_good mix laws m l (λ t. get_or xs t d) (rounds at_least_as_good mix k m v) h s p
-
   -- the better of two values, the first of equals
   abbrev better : V → V → V
   better x y = cond (at_least_as_good x y) x y
 
   -- it does not matter which pair is compared first
   better_assoc : (x y z : V) → better (better x y) z ≡ better x (better y z)
-  better_assoc x y z = elim (which (at_least_as_good x y)) [
-    | inl e ↦ elim (which (at_least_as_good y z)) [
+  better_assoc x y z = elim (cases_Bool (at_least_as_good x y)) [
+    | inl e ↦ elim (cases_Bool (at_least_as_good y z)) [
       | inl f ↦ rw (e, f, e, laws.transitive x y z e f)
       | inr f ↦ rw (e, f)
     ]
-    | inr e ↦ elim (which (at_least_as_good y z)) [
+    | inr e ↦ elim (cases_Bool (at_least_as_good y z)) [
       | inl f ↦ rw (e, f, e)
       | inr f ↦ rw (e, f, not_over x y z e f)
     ]
   ]
     where
       not_over : (x y z : V) → at_least_as_good x y ≡ false → at_least_as_good y z ≡ false → at_least_as_good x z ≡ false
-      not_over x y z e f = elim (which (at_least_as_good x z)) [
-        | inl g ↦ ⊎_elim (λ q. true_not_false (at_least_as_good y z) q f) (λ q. true_not_false (at_least_as_good x y) (laws.transitive x z y g q) e) (laws.complete y z)
+      not_over x y z e f = elim (cases_Bool (at_least_as_good x z)) [
+        | inl g ↦ ⊎_elim (λ q. absurd (both_ways (at_least_as_good y z) f q)) (λ q. absurd (both_ways (at_least_as_good x y) e (laws.transitive x z y g q))) (laws.complete y z)
         | inr g ↦ g
       ]
 

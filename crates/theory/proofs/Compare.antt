@@ -1,7 +1,9 @@
 -- Comparisons: as a test, under a factor, and along what makes them harder to fit.
-use Rattle.std.proofs.Common.{◌≡◌, ℕ, ◌*◌, ◌≤◌, true, ◌↔◌, le_trans, lt_of_lt_of_le, lt_of_le_of_lt, mul-le-mul_right, lt_of_mul-lt-mul_right, mul-lt-mul_of_pos_right, le_of_mul-le-mul_right, ltb-true, lt-ltb, le-leb, leb-true}
+use Rattle.std.proofs.Common.{◌≡◌, ℕ, ◌*◌, ◌≤◌, true, ◌↔◌, le_trans, lt_of_lt_of_le, lt_of_le_of_lt, mul-le-mul_right, lt_of_mul-lt-mul_right, mul-lt-mul_of_pos_right, le_of_mul-le-mul_right, ltb-true, lt-ltb, le-leb, leb-true, List}
+use Rattle.theory.specs.Mixes.{greater, lesser}
+use Rattle.theory.specs.Rules.{RuleLaws}
 use Rattle.theory.specs.Formulas.{Comparison, below, at_most, above, at_least, Fits}
-use Rattle.theory.specs.Verdicts.{fits}
+use Rattle.theory.specs.Verdicts.{fits, asked}
 use Rattle.theory.specs.Distances.{Harder}
 
 -- the test decides
@@ -38,3 +40,17 @@ fits_part below x y d h f = lt_of_mul-lt-mul_right d f
 fits_part at_most x y d h f = le_of_mul-le-mul_right f h
 fits_part above x y d h f = lt_of_mul-lt-mul_right d f
 fits_part at_least x y d h f = le_of_mul-le-mul_right f h
+
+-- what the preference of a comparison puts first is harder to fit
+pub asked_harder : (c : Comparison) (x y : ℕ) → asked c x y ≡ true → Harder c x y
+asked_harder below x y = leb-true y x
+asked_harder at_most x y = leb-true y x
+asked_harder above x y = leb-true x y
+asked_harder at_least x y = leb-true x y
+
+-- a rule that is lawful with the greater preferred and with the lesser is lawful with the preference of each comparison
+pub asked_laws : (mix : ℕ → List (ℕ × ℕ) → ℕ) → RuleLaws greater mix → RuleLaws lesser mix → (c : Comparison) → RuleLaws (asked c) mix
+asked_laws mix g h below = g
+asked_laws mix g h at_most = g
+asked_laws mix g h above = h
+asked_laws mix g h at_least = h

@@ -1,27 +1,18 @@
 -- the ends after k rounds over the held model bound the tallies of the model itself.
-use Rattle.std.proofs.Common.{◌≡◌, ℕ, zero, suc, ◌+◌, ◌-◌, ◌*◌, ◌/◌, ◌^◌, ◌<◌, ◌≤◌, Bool, true, false, cond, List, [], ◌∷◌, map, length, refl, le_trans, le_of_eq, le_refl, mul-le-mul_right, div-lt_iff_lt-mul, div-mul-le_self, arith, leb-false, leb-true}
+use Rattle.std.proofs.Common.{◌≡◌, ℕ, zero, suc, ◌+◌, ◌-◌, ◌*◌, ◌/◌, ◌^◌, ◌<◌, ◌≤◌, Bool, true, false, cond, List, [], ◌∷◌, map, length, le_trans, le_of_eq, le_refl, mul-le-mul_right, div-lt_iff_lt-mul, div-mul-le_self, arith, leb-true}
+use Rattle.std.proofs.lemmas.Bool.Decides.{nat_tests}
 use native.Mathlib.Nat.{pow-succ', pow-zero, div-eq_of_lt-le}
 use Rattle.model.specs.Mdp.{Mdp, Row, Lawful, LawfulRow, Each}
 use Rattle.theory.specs.Adversaries.{Adversary, Allowed, chosen}
 use Rattle.theory.specs.Tallies.{tally_after, tally}
-use Rattle.theory.specs.Rules.{valued}
 use Rattle.theory.specs.Rounds.{most, most_of, mixed, value, rounds}
-use Rattle.theory.specs.Mixes.{whole, sum_of, mix_down, mix_up, greater, lesser}
+use Rattle.theory.specs.Mixes.{whole, mix_down, mix_up, greater, lesser}
 use Rattle.theory.specs.Ends.{EndsBound, Close, held, stops, start, lower, upper}
 use Rattle.theory.proofs.Rounds.{row_within, ascends_within, some_adversary, no_adversary}
 use Rattle.theory.proofs.RuleLaws.{down_greater, down_lesser, up_greater, up_lesser, div_mono}
 use Rattle.theory.proofs.Tallies.{spread, spread_mul, spread_le, spread_add, tally_right, tally_out, tally_none, tally_on}
 use Rattle.model.specs.HoldLaws.{hold_lawful}
 use Rattle.theory.proofs.Holding.{unheld_allowed, lifted, lifted_allowed, lifted_row, unheld_row, stay, reached, lost, under_way, kind}
-
--- the sum over a row of values is the sum over the row
-pub sum_spread : (f : ℕ → ℕ) (r : Row) → sum_of (valued f r) ≡ spread f r
-sum_spread f [] = refl
-sum_spread f (b ∷ bs) = rw (sum_spread f bs)
-
--- rounding
-pub down_below : (d a : ℕ) → a / d * d ≤ a
-down_below d a = div-mul-le_self a d
 
 -- rounding up does not fall below
 pub up_above : (d a : ℕ) → 1 ≤ d → a ≤ (a + (d - 1)) / d * d
@@ -67,8 +58,8 @@ module _ (left right : ℕ → Bool) (m : Mdp) (l : Lawful m) (σ τ : Adversary
         let t = tally_on left right m l σ a k h s e f in
         let le = spread_le m.states (λ x. v x * m.denominator ^ k) (λ x. tally_after left right k m σ (s ∷ h) x * whole) r
         (row_within m l s (σ (s ∷ h)) (a h s p)) (λ x q. value_down k (s ∷ h) x q) in
-        let d = mul-le-mul_right (m.denominator ^ k) (down_below m.denominator (spread v r)) in
-        rw (agree h s (rw (e, f)), sum_spread v r, t, pow-succ' m.denominator k)
+        let d = mul-le-mul_right (m.denominator ^ k) (div-mul-le_self (spread v r) m.denominator) in
+        rw (agree h s (rw (e, f)), t, pow-succ' m.denominator k)
         (omega (arith, spread_mul (m.denominator ^ k) v r, spread_mul whole (tally_after left right k m σ (s ∷ h)) r))
   ]
 
@@ -90,28 +81,24 @@ module _ (left right : ℕ → Bool) (m : Mdp) (l : Lawful m) (σ τ : Adversary
         let le = spread_le m.states (λ x. tally_after left right k m σ (s ∷ h) x * whole) (λ x. v x * m.denominator ^ k) r
         (row_within m l s (σ (s ∷ h)) (a h s p)) (λ x q. tally_up k (s ∷ h) x q) in
         let d = mul-le-mul_right (m.denominator ^ k) (up_above m.denominator (spread v r) l.some_unit) in
-        rw (agree h s (rw (e, f)), sum_spread v r, t, pow-succ' m.denominator k)
+        rw (agree h s (rw (e, f)), t, pow-succ' m.denominator k)
         (omega (arith, spread_mul (m.denominator ^ k) v r, spread_mul whole (tally_after left right k m σ (s ∷ h)) r))
   ]
 
 module _ (left right : ℕ → Bool) (m : Mdp) (l : Lawful m) (k s : ℕ) (p : s < m.states) where
-  -- the held model is lawful
-  held_lawful : Lawful (held left right m)
-  held_lawful = hold_lawful (stops left right) m l
-
   -- the ends bound every adversary, best
   pub best_none_above : (σ : Adversary) → Allowed m σ → tally left right k m σ s * whole ≤ upper greater left right k m s * m.denominator ^ k
   best_none_above σ a =
       let τ = lifted (stops left right) m σ in
       let b = lifted_allowed (stops left right) m σ a in
       let t = tally_up left right m l σ τ a b (lifted_row (stops left right) m σ) k [] s p in
-      let u = leb-true _ _ (no_adversary greater mix_up up_greater (held left right m) held_lawful (start right) k s p τ b) in
+      let u = leb-true _ _ (no_adversary greater mix_up up_greater (held left right m) (hold_lawful (stops left right) m l) (start right) k s p τ b) in
       le_trans t (mul-le-mul_right (m.denominator ^ k) u)
 
   -- some adversary reaches the lower end for the best
   pub best_some : (σ : Adversary) × Allowed m σ × (lower greater left right k m s * m.denominator ^ k ≤ tally left right k m σ s * whole)
   best_some =
-      let c = some_adversary greater mix_down down_greater (held left right m) held_lawful (start right) k s p in
+      let c = some_adversary greater mix_down down_greater (held left right m) (hold_lawful (stops left right) m l) (start right) k s p in
       let a = unheld_allowed (stops left right) m l c.0 c.1 in
       (c.0, a, rw c.2 at (value_down left right m l c.0 c.0 a c.1 (unheld_row (stops left right) m c.0) k [] s p))
 
@@ -121,38 +108,33 @@ module _ (left right : ℕ → Bool) (m : Mdp) (l : Lawful m) (k s : ℕ) (p : s
       let τ = lifted (stops left right) m σ in
       let b = lifted_allowed (stops left right) m σ a in
       let t = value_down left right m l σ τ a b (lifted_row (stops left right) m σ) k [] s p in
-      let u = leb-true _ _ (no_adversary lesser mix_down down_lesser (held left right m) held_lawful (start right) k s p τ b) in
+      let u = leb-true _ _ (no_adversary lesser mix_down down_lesser (held left right m) (hold_lawful (stops left right) m l) (start right) k s p τ b) in
       le_trans (mul-le-mul_right (m.denominator ^ k) u) t
 
   -- some adversary is down at the upper end for the worst
   pub worst_some : (σ : Adversary) × Allowed m σ × (tally left right k m σ s * whole ≤ upper lesser left right k m s * m.denominator ^ k)
   worst_some =
-      let c = some_adversary lesser mix_up up_lesser (held left right m) held_lawful (start right) k s p in
+      let c = some_adversary lesser mix_up up_lesser (held left right m) (hold_lawful (stops left right) m l) (start right) k s p in
       let a = unheld_allowed (stops left right) m l c.0 c.1 in
       (c.0, a, rw c.2 at (tally_up left right m l c.0 c.0 a c.1 (unheld_row (stops left right) m c.0) k [] s p))
 
--- the greater of two close pairs are close
-pub greater_close : (c x y x' y' : ℕ) → Close c x y → Close c x' y' → Close c (cond (greater x x') x x') (cond (greater y y') y y')
-greater_close c x y x' y' p q = go (greater x x') (greater y y') refl refl
-  where
-    go : (a b : Bool) → greater x x' ≡ a → greater y y' ≡ b → Close c (cond a x x') (cond b y y')
-    go true true e f = p
-    go true false e f = let u = leb-true x' x e in let v = leb-false y' y f in let z = p.under in record { under = omega arith; near = omega arith }
-    go false true e f = let u = leb-false x' x e in let v = leb-true y' y f in record { under = omega arith; near = omega arith }
-    go false false e f = q
+-- a preference that takes from two pairs of close numbers a pair of close numbers
+abbrev pub KeepsClose : (ℕ → ℕ → Bool) → Type 0
+KeepsClose prefer = (c x y x' y' : ℕ) → Close c x y → Close c x' y' → Close c (cond (prefer x x') x x') (cond (prefer y y') y y')
 
--- the lesser of two close pairs are close
-pub lesser_close : (c x y x' y' : ℕ) → Close c x y → Close c x' y' → Close c (cond (lesser x x') x x') (cond (lesser y y') y y')
-lesser_close c x y x' y' p q = go (lesser x x') (lesser y y') refl refl
-  where
-    go : (a b : Bool) → lesser x x' ≡ a → lesser y y' ≡ b → Close c (cond a x x') (cond b y y')
-    go true true e f = p
-    go true false e f = let u = leb-true x x' e in let v = leb-false y y' f in record { under = omega arith; near = omega arith }
-    go false true e f = let u = leb-false x x' e in let v = leb-true y y' f in record { under = omega arith; near = omega arith }
-    go false false e f = q
+-- the greater of two does
+pub greater_close : KeepsClose greater
+greater_close c x y x' y' p q =
+    let a = p.under in let b = p.near in let d = q.under in let e = q.near in
+    record { under = grind (arith, nat_tests); near = grind (arith, nat_tests) }
 
-module _ (prefer : ℕ → ℕ → Bool)
-    (keeps : (c x y x' y' : ℕ) → Close c x y → Close c x' y' → Close c (cond (prefer x x') x x') (cond (prefer y y') y y')) where
+-- so does the lesser
+pub lesser_close : KeepsClose lesser
+lesser_close c x y x' y' p q =
+    let a = p.under in let b = p.near in let d = q.under in let e = q.near in
+    record { under = grind (arith, nat_tests); near = grind (arith, nat_tests) }
+
+module _ (prefer : ℕ → ℕ → Bool) (keeps : KeepsClose prefer) where
   -- so are the most preferred of two lists
   most_close : (c : ℕ) (f g : Row → ℕ) (r : Row) (rs : List Row) → Close c (f r) (g r) → Each (λ q. Close c (f q) (g q)) rs →
       Close c (most prefer (f r) (map f rs)) (most prefer (g r) (map g rs))
@@ -177,7 +159,7 @@ module _ (prefer : ℕ → ℕ → Bool)
         let ad = spread_add u c r in
         let su = lr.sums in
         let un = l.some_unit in
-        rw (sum_spread u r, sum_spread v r) record {
+        record {
           under = div_mono d (spread u r) (spread v r + (d - 1)) (omega arith);
           near = up_near_down d (spread u r) (spread v r) c un (rw su at (le_trans hi (le_of_eq ad)));
         }
@@ -195,16 +177,13 @@ module _ (prefer : ℕ → ℕ → Bool)
         (m.choices s) (l.some_choice s p) (each_close k (rounds prefer mix_down k m v) (rounds prefer mix_up k m v) (m.choices s) (l.rows s) (λ t q. rounds_close v k t q))
 
 -- the upper end lies at most k above the lower
-pub best_close : (left right : ℕ → Bool) (m : Mdp) → Lawful m → (k s : ℕ) → s < m.states → Close k (lower greater left right k m s) (upper greater left right k m s)
-best_close left right m l k s p = rounds_close greater greater_close (held left right m) (hold_lawful (stops left right) m l) (start right) k s p
-
--- the same for the worst
-pub worst_close : (left right : ℕ → Bool) (m : Mdp) → Lawful m → (k s : ℕ) → s < m.states → Close k (lower lesser left right k m s) (upper lesser left right k m s)
-worst_close left right m l k s p = rounds_close lesser lesser_close (held left right m) (hold_lawful (stops left right) m l) (start right) k s p
+pub ends_close : (prefer : ℕ → ℕ → Bool) → KeepsClose prefer → (left right : ℕ → Bool) (m : Mdp) → Lawful m → (k s : ℕ) → s < m.states →
+    Close k (lower prefer left right k m s) (upper prefer left right k m s)
+ends_close prefer keeps left right m l k s p = rounds_close prefer keeps (held left right m) (hold_lawful (stops left right) m l) (start right) k s p
 
 -- the ends bound every adversary
 pub ends_bound : EndsBound
 ends_bound left right m l k s p = (
-  record { none_above = best_none_above left right m l k s p; some_reaches = best_some left right m l k s p; gap = best_close left right m l k s p },
-  record { none_below = worst_none_below left right m l k s p; some_reaches = worst_some left right m l k s p; gap = worst_close left right m l k s p },
+  record { none_above = best_none_above left right m l k s p; some_reaches = best_some left right m l k s p; gap = ends_close greater greater_close left right m l k s p },
+  record { none_below = worst_none_below left right m l k s p; some_reaches = worst_some left right m l k s p; gap = ends_close lesser lesser_close left right m l k s p },
 )

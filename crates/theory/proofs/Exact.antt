@@ -1,5 +1,5 @@
 -- The largest and the smallest tally: the tally is the value under the rule that only adds up.
-use Rattle.std.proofs.Common.{◌≡◌, ℕ, zero, suc, ◌*◌, ◌^◌, ◌<◌, ◌≤◌, Bool, true, false, cond, List, [], ◌∷◌, sym, ap, ◌∙◌, arith, leb-true}
+use Rattle.std.proofs.Common.{◌≡◌, ℕ, zero, suc, ◌*◌, ◌^◌, ◌<◌, Bool, true, false, cond, List, [], ◌∷◌, sym, ap, ◌∙◌, arith}
 use native.Mathlib.Nat.{pow-succ', pow-zero}
 use Rattle.model.specs.Mdp.{Mdp, Lawful}
 use Rattle.theory.specs.Adversaries.{Adversary, Allowed, chosen}
@@ -8,12 +8,11 @@ use Rattle.theory.specs.Rules.{RuleLaws}
 use Rattle.theory.specs.Rounds.{mixed, value, rounds}
 use Rattle.theory.specs.Mixes.{sum_of, greater, lesser}
 use Rattle.theory.specs.Ends.{held, stops}
-use Rattle.theory.proofs.Rounds.{row_within, some_adversary, no_adversary}
+use Rattle.theory.proofs.Rounds.{row_within, some_adversary, no_adversary, valued_same}
 use Rattle.theory.proofs.RuleLaws.{sum_better, greater_laws, lesser_laws}
-use Rattle.theory.proofs.Tallies.{spread_same, tally_right, tally_out, tally_none, tally_on}
+use Rattle.theory.proofs.Tallies.{tally_right, tally_out, tally_none, tally_on}
 use Rattle.model.specs.HoldLaws.{hold_lawful}
 use Rattle.theory.proofs.Holding.{unheld_allowed, lifted, lifted_allowed, lifted_row, unheld_row, stop_row, reached, lost, under_way, kind}
-use Rattle.theory.proofs.Ends.{sum_spread}
 
 -- the rule that only adds up
 abbrev pub mix_sum : ℕ → List (ℕ × ℕ) → ℕ
@@ -50,43 +49,26 @@ module _ (left right : ℕ → Bool) (m : Mdp) (l : Lawful m) (σ τ : Adversary
   value_sum (suc k) h s p = elim (kind left right s) [
     | reached e ↦ rw (keep_sum (suc k) h s p (rw e), tally_right left right m l σ a (suc k) h s p e, e) (omega arith)
     | lost e f ↦ rw (keep_sum (suc k) h s p (rw (e, f)), tally_out left right m l σ a (suc k) h s e f, e) (omega arith)
-    | under_way e f ↦ rw (agree h s (rw (e, f)), tally_on left right m l σ a k h s e f, sum_spread (value mix_sum k (held left right m) (one_in right) τ (s ∷ h)) (chosen m σ h s))
-        (spread_same m.states _ _ (chosen m σ h s) (row_within m l s (σ (s ∷ h)) (a h s p)) (λ t q. value_sum k (s ∷ h) t q))
+    | under_way e f ↦ rw (agree h s (rw (e, f)), tally_on left right m l σ a k h s e f)
+        (ap sum_of (valued_same m.states _ _ (chosen m σ h s) (row_within m l s (σ (s ∷ h)) (a h s p)) (λ t q. value_sum k (s ∷ h) t q)))
   ]
 
--- the largest tally and the smallest
-abbrev pub best_tally : (ℕ → Bool) → (ℕ → Bool) → ℕ → Mdp → ℕ → ℕ
-best_tally left right k m s = rounds greater mix_sum k (held left right m) (one_in right) s
+-- the tally that is preferred to all others: with the greater preferred the largest, with the lesser the smallest
+abbrev pub best_tally : (ℕ → ℕ → Bool) → (ℕ → Bool) → (ℕ → Bool) → ℕ → Mdp → ℕ → ℕ
+best_tally prefer left right k m s = rounds prefer mix_sum k (held left right m) (one_in right) s
 
--- the smallest
-abbrev pub worst_tally : (ℕ → Bool) → (ℕ → Bool) → ℕ → Mdp → ℕ → ℕ
-worst_tally left right k m s = rounds lesser mix_sum k (held left right m) (one_in right) s
+module _ (prefer : ℕ → ℕ → Bool) (laws : RuleLaws prefer mix_sum) (left right : ℕ → Bool) (m : Mdp) (l : Lawful m) (k s : ℕ) (p : s < m.states) where
+  -- no adversary's tally is preferred to it
+  pub tally_best : (σ : Adversary) → Allowed m σ → prefer (best_tally prefer left right k m s) (tally left right k m σ s) ≡ true
+  tally_best σ a =
+      let τ = lifted (stops left right) m σ in
+      let b = lifted_allowed (stops left right) m σ a in
+      rw (value_sum left right m l σ τ a b (lifted_row (stops left right) m σ) k [] s p) at
+      (no_adversary prefer mix_sum laws (held left right m) (hold_lawful (stops left right) m l) (one_in right) k s p τ b)
 
-module _ (left right : ℕ → Bool) (m : Mdp) (l : Lawful m) (k s : ℕ) (p : s < m.states) where
-  -- the same adversary lifted to the held model
-  up_to : (σ : Adversary) (a : Allowed m σ) → value mix_sum k (held left right m) (one_in right) (lifted (stops left right) m σ) [] s ≡ tally left right k m σ s
-  up_to σ a = value_sum left right m l σ (lifted (stops left right) m σ) a (lifted_allowed (stops left right) m σ a) (lifted_row (stops left right) m σ) k [] s p
-
-  -- no adversary has a larger tally
-  pub best_largest : (σ : Adversary) → Allowed m σ → tally left right k m σ s ≤ best_tally left right k m s
-  best_largest σ a = rw (up_to σ a) at (leb-true _ _ (no_adversary greater mix_sum sum_greater (held left right m) (hold_lawful (stops left right) m l) (one_in right) k s p
-      (lifted (stops left right) m σ) (lifted_allowed (stops left right) m σ a)))
-
-  -- some adversary has the largest
-  pub best_reached : (σ : Adversary) × Allowed m σ × (tally left right k m σ s ≡ best_tally left right k m s)
-  best_reached =
-      let c = some_adversary greater mix_sum sum_greater (held left right m) (hold_lawful (stops left right) m l) (one_in right) k s p in
-      let a = unheld_allowed (stops left right) m l c.0 c.1 in
-      (c.0, a, sym (value_sum left right m l c.0 c.0 a c.1 (unheld_row (stops left right) m c.0) k [] s p) ∙ c.2)
-
-  -- no adversary has a smaller one
-  pub worst_smallest : (σ : Adversary) → Allowed m σ → worst_tally left right k m s ≤ tally left right k m σ s
-  worst_smallest σ a = rw (up_to σ a) at (leb-true _ _ (no_adversary lesser mix_sum sum_lesser (held left right m) (hold_lawful (stops left right) m l) (one_in right) k s p
-      (lifted (stops left right) m σ) (lifted_allowed (stops left right) m σ a)))
-
-  -- some adversary has the smallest
-  pub worst_reached : (σ : Adversary) × Allowed m σ × (tally left right k m σ s ≡ worst_tally left right k m s)
-  worst_reached =
-      let c = some_adversary lesser mix_sum sum_lesser (held left right m) (hold_lawful (stops left right) m l) (one_in right) k s p in
+  -- some adversary has it
+  pub tally_reached : (σ : Adversary) × Allowed m σ × (tally left right k m σ s ≡ best_tally prefer left right k m s)
+  tally_reached =
+      let c = some_adversary prefer mix_sum laws (held left right m) (hold_lawful (stops left right) m l) (one_in right) k s p in
       let a = unheld_allowed (stops left right) m l c.0 c.1 in
       (c.0, a, sym (value_sum left right m l c.0 c.0 a c.1 (unheld_row (stops left right) m c.0) k [] s p) ∙ c.2)

@@ -1,11 +1,11 @@
 -- Figures on three small models, worked out by the definitions themselves.
 use Rattle.std.proofs.Common.{◌≡◌, ℕ, zero, suc, ◌<◌, ◌≤◌, Bool, true, false, eqb, List, [], ◌∷◌, length, replicate, refl, arith}
+use Rattle.std.proofs.lemmas.Bool.{both_ways}
 use Rattle.model.specs.Mdp.{Mdp, Row, Lawful, LawfulRow, Each, no_labels, to}
 use Rattle.theory.specs.Tallies.{tally}
 use Rattle.theory.specs.Mixes.{whole, greater, lesser}
 use Rattle.theory.specs.Ends.{lower, upper}
 use Rattle.theory.specs.Formulas.{truth, label, probability, until, at_most, above, at_least, Holds}
-use Rattle.theory.proofs.Lists.{true_not_false}
 use Rattle.theory.proofs.Found.{verdicts}
 use Rattle.theory.proofs.Judge.{sound}
 
@@ -141,7 +141,7 @@ r_lawful = record {
 
 -- until a is not certain in R from 0
 r_not_sure : ¬ (Holds R (probability at_least whole (until truth (label 0))) 0)
-r_not_sure h = true_not_false ((verdicts R (probability at_least whole (until truth (label 0)))).possible 0) ((sound R r_lawful (probability at_least whole (until truth (label 0))) 0 (omega arith)).holds_possible h) refl
+r_not_sure h = absurd (both_ways ((verdicts R (probability at_least whole (until truth (label 0)))).possible 0) refl ((sound R r_lawful (probability at_least whole (until truth (label 0))) 0 (omega arith)).holds_possible h))
 
 -- it is positive there
 r_positive : Holds R (probability above 0 (until truth (label 0))) 0

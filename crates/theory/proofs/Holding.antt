@@ -1,5 +1,6 @@
 -- What the adversaries of the held model do.
-use Rattle.std.proofs.Common.{◌≡◌, ℕ, zero, suc, ◌<◌, Bool, true, false, cond, ltb, List, [], ◌∷◌, map, length, refl, ap, ◌∙◌, arith, lt-ltb}
+use Rattle.std.proofs.Common.{◌≡◌, ℕ, zero, suc, ◌<◌, Bool, true, false, cond, ltb, List, [], ◌∷◌, map, refl, ap, ◌∙◌, arith, lt-ltb, inl, inr}
+use Rattle.std.proofs.lemmas.Bool.{cases_Bool}
 use mathlib.Core.Bool.{and-false}
 use Rattle.model.specs.Mdp.{Mdp, Lawful, hold, to}
 use Rattle.theory.specs.Adversaries.{Adversary, Allowed, chosen}
@@ -16,11 +17,10 @@ module _ (stop : ℕ → Bool) (m : Mdp) where
 
   -- what is allowed over the hold is allowed below it
   pub unheld_allowed : Lawful m → (σ : Adversary) → Allowed (hold stop m) σ → Allowed m σ
-  unheld_allowed l σ a h s p = go (stop s) refl
-    where
-      go : (b : Bool) → stop s ≡ b → σ (s ∷ h) < length (m.choices s)
-      go true e = let q : σ (s ∷ h) < 1 = rw (hold_yes s p e) at (a h s p) in let c = l.some_choice s p in omega arith
-      go false e = rw (hold_no s e) at (a h s p)
+  unheld_allowed l σ a h s p = elim (cases_Bool (stop s)) [
+    | inl e ↦ let q : σ (s ∷ h) < 1 = rw (hold_yes s p e) at (a h s p) in let c = l.some_choice s p in omega arith
+    | inr e ↦ rw (hold_no s e) at (a h s p)
+  ]
 
   -- the adversary that takes the one choice of a held state
   pub lifted : Adversary → Adversary
@@ -30,11 +30,10 @@ module _ (stop : ℕ → Bool) (m : Mdp) where
   -- it is allowed there
   pub lifted_allowed : (σ : Adversary) → Allowed m σ → Allowed (hold stop m) (lifted σ)
   unfolding lifted
-  lifted_allowed σ a h s p = go (stop s) refl
-    where
-      go : (b : Bool) → stop s ≡ b → cond (stop s) 0 (σ (s ∷ h)) < length ((hold stop m).choices s)
-      go true e = rw (hold_yes s p e, e) (omega arith)
-      go false e = rw (hold_no s e, e) (a h s p)
+  lifted_allowed σ a h s p = elim (cases_Bool (stop s)) [
+    | inl e ↦ rw (hold_yes s p e, e) (omega arith)
+    | inr e ↦ rw (hold_no s e, e) (a h s p)
+  ]
 
   -- and takes the same row where the state is not held
   pub lifted_row : (σ : Adversary) (h : List ℕ) (s : ℕ) → stop s ≡ false → chosen (hold stop m) (lifted σ) h s ≡ chosen m σ h s
@@ -67,12 +66,10 @@ pub data Kind (left right : ℕ → Bool) (s : ℕ) : Type 0 where
 
 -- every state is of one kind
 pub kind : (left right : ℕ → Bool) (s : ℕ) → Kind left right s
-kind left right s = go (right s) (left s) refl refl
-  where
-    go : (x y : Bool) → right s ≡ x → left s ≡ y → Kind left right s
-    go true y p q = reached p
-    go false false p q = lost p q
-    go false true p q = under_way p q
+kind left right s = elim (cases_Bool (right s)) [
+  | inl e ↦ reached e
+  | inr e ↦ elim (cases_Bool (left s)) [ inl f ↦ under_way e f | inr f ↦ lost e f ]
+]
 
 -- rounds leave a held state as it was
 pub rounds_stay : {V : Type 0} (at_least_as_good : V → V → Bool) (mix : ℕ → List (ℕ × V) → V) (stop : ℕ → Bool) (m : Mdp) →

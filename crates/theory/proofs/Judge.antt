@@ -1,22 +1,22 @@
 -- The verdicts are right: yes states hold, and what holds is possible.
 use Rattle.std.proofs.Common.{◌≡◌, ℕ, ◌*◌, ◌^◌, ◌<◌, ◌≤◌, Bool, true, false, not, [], Some, None, Option, refl, ap, inl, inr, le_trans, mul-le-mul_right}
+use Rattle.std.proofs.lemmas.Bool.{cases_Bool, both_ways, and_parts, not-true}
 use native.Mathlib.Nat.{one-le-pow}
 use Rattle.model.specs.Mdp.{Mdp, Lawful}
 use Rattle.theory.specs.Adversaries.{Adversary, Allowed}
 use Rattle.theory.specs.Tallies.{tally, next_tally}
 use Rattle.theory.specs.Rounds.{rounds}
 use Rattle.theory.specs.Mixes.{whole, greater, lesser, mix_down, mix_up}
-use Rattle.theory.specs.Ends.{start, lower, upper}
+use Rattle.theory.specs.Ends.{start, lower, upper, next_lower, next_upper}
 use Rattle.theory.specs.WithoutSteps.{Extremal, over_none, at_most_none, at_least_whole, WithoutSteps}
 use Rattle.theory.specs.Formulas.{PathFormula, PathHolds, probability, until_within, until, extremal, Under, Comparison, below, at_most, above, at_least, Formula, truth, label, negation, conjunction, next, Fits, SetOf, Holds}
-use Rattle.theory.specs.Verdicts.{Correct, fits, VerdictSets, next_verdicts, until_within_verdicts}
+use Rattle.theory.specs.Verdicts.{Correct, fits, VerdictSets, next_verdicts, until_within_verdicts, asked, harder_end, easier_end}
 use Rattle.theory.specs.Distances.{Harder}
 use Rattle.theory.proofs.Found.{until_verdicts, path_verdicts, extremal_verdicts, verdicts}
-use Rattle.theory.proofs.Lists.{true_not_false, which}
 use Rattle.theory.proofs.Ends.{best_none_above, best_some, worst_none_below, worst_some}
 use Rattle.theory.proofs.Between.{Subset, tally_below, next_below, next_none_above, next_none_below, next_best_some, next_worst_some}
 use Rattle.theory.proofs.Compare.{fits_test, fits_harder, fits_times, fits_part}
-use Rattle.theory.proofs.Meaning.{not_yes, and_yes, decided, marked_iff, positive_more, never_less, certain_more}
+use Rattle.theory.proofs.Meaning.{decided, marked_iff, positive_more, never_less, certain_more}
 
 -- a set between the sure and the possible states
 pub record Among (m : Mdp) (v : VerdictSets) (set : ℕ → Bool) : Type 0 where
@@ -24,29 +24,28 @@ pub record Among (m : Mdp) (v : VerdictSets) (set : ℕ → Bool) : Type 0 where
   pub high : Subset m set v.possible
 
 module _ (m : Mdp) (l : Lawful m) (s : ℕ) (p : s < m.states) where
-  -- an end that every adversary's value keeps to, and one that some value keeps to
-  module _ (q : Adversary → ℕ) (b k yes_end no_end : ℕ) (c : Comparison) where
-    -- where the end that all values keep to fits the bound, every value fits it
-    end_yes : ((σ : Adversary) → Allowed m σ → Harder c (yes_end * m.denominator ^ k) (q σ * whole)) →
-        fits c yes_end b ≡ true → (σ : Adversary) → Allowed m σ → Fits c (q σ * whole) (b * m.denominator ^ k)
-    end_yes h e σ a = fits_harder c (yes_end * m.denominator ^ k) (q σ * whole) (b * m.denominator ^ k) (h σ a)
-        (fits_times c yes_end b (m.denominator ^ k) (one-le-pow k m.denominator l.some_unit) ((fits_test c yes_end b).0 e))
+  -- an edge that every adversary's value keeps to, or that some value keeps to
+  module _ (q : Adversary → ℕ) (b k edge : ℕ) (c : Comparison) where
+    -- where the edge that all values keep to fits the bound, every value fits it
+    end_yes : ((σ : Adversary) → Allowed m σ → Harder c (edge * m.denominator ^ k) (q σ * whole)) →
+        fits c edge b ≡ true → (σ : Adversary) → Allowed m σ → Fits c (q σ * whole) (b * m.denominator ^ k)
+    end_yes h e σ a = fits_harder c (edge * m.denominator ^ k) (q σ * whole) (b * m.denominator ^ k) (h σ a)
+        (fits_times c edge b (m.denominator ^ k) (one-le-pow k m.denominator l.some_unit) ((fits_test c edge b).0 e))
 
-    -- where every value fits the bound, so does the end that some value keeps to
-    end_no : (σ : Adversary) × Allowed m σ × Harder c (q σ * whole) (no_end * m.denominator ^ k) →
-        ((σ : Adversary) → Allowed m σ → Fits c (q σ * whole) (b * m.denominator ^ k)) → fits c no_end b ≡ true
-    end_no r f = (fits_test c no_end b).1 (fits_part c no_end b (m.denominator ^ k) (one-le-pow k m.denominator l.some_unit)
-        (fits_harder c (q r.0 * whole) (no_end * m.denominator ^ k) (b * m.denominator ^ k) r.2 (f r.0 r.1)))
+    -- where a value that keeps to the edge fits the bound, so does the edge
+    end_fits : (σ : Adversary) → Harder c (q σ * whole) (edge * m.denominator ^ k) → Fits c (q σ * whole) (b * m.denominator ^ k) → fits c edge b ≡ true
+    end_fits σ h f = (fits_test c edge b).1 (fits_part c edge b (m.denominator ^ k) (one-le-pow k m.denominator l.some_unit)
+        (fits_harder c (q σ * whole) (edge * m.denominator ^ k) (b * m.denominator ^ k) h f))
 
-  -- where that end does not fit, some adversary does not
-  pub end_fails : (q : Adversary → ℕ) (b k no_end : ℕ) (c : Comparison) → (σ : Adversary) × Allowed m σ × Harder c (q σ * whole) (no_end * m.denominator ^ k) →
-      fits c no_end b ≡ false → (σ : Adversary) × Allowed m σ × ¬ (Fits c (q σ * whole) (b * m.denominator ^ k))
-  end_fails q b k no_end c r e = (
-    r.0,
-    r.1,
-    λ f. true_not_false (fits c no_end b) ((fits_test c no_end b).1 (fits_part c no_end b (m.denominator ^ k) (one-le-pow k m.denominator l.some_unit)
-        (fits_harder c (q r.0 * whole) (no_end * m.denominator ^ k) (b * m.denominator ^ k) r.2 f))) e,
-  )
+    -- so it does where every value fits the bound
+    end_no : (σ : Adversary) × Allowed m σ × Harder c (q σ * whole) (edge * m.denominator ^ k) →
+        ((σ : Adversary) → Allowed m σ → Fits c (q σ * whole) (b * m.denominator ^ k)) → fits c edge b ≡ true
+    end_no r f = end_fits r.0 r.2 (f r.0 r.1)
+
+    -- and where the edge does not fit, some adversary does not
+    pub end_fails : (σ : Adversary) × Allowed m σ × Harder c (q σ * whole) (edge * m.denominator ^ k) →
+        fits c edge b ≡ false → (σ : Adversary) × Allowed m σ × ¬ (Fits c (q σ * whole) (b * m.denominator ^ k))
+    end_fails r e = (r.0, r.1, λ f. both_ways (fits c edge b) e (end_fits r.0 r.2 f))
 
   module _ (v w : VerdictSets) (left right : ℕ → Bool) (x : Among m v left) (y : Among m w right) (k : ℕ) where
     -- on the sure sets a tally is no larger
@@ -58,28 +57,44 @@ module _ (m : Mdp) (l : Lawful m) (s : ℕ) (p : s < m.states) where
     less σ a = mul-le-mul_right whole (tally_below m l σ a left v.possible right w.possible x.high y.high k [] s p)
 
     -- the upper end on the possible sets bounds the best
-    pub best_yes : (σ : Adversary) → Allowed m σ → tally left right k m σ s * whole ≤ upper greater v.possible w.possible k m s * m.denominator ^ k
+    best_yes : (σ : Adversary) → Allowed m σ → tally left right k m σ s * whole ≤ upper greater v.possible w.possible k m s * m.denominator ^ k
     best_yes σ a = le_trans (less σ a) (best_none_above v.possible w.possible m l k s p σ a)
 
     -- some adversary reaches the lower end on the sure sets
-    pub best_no : (σ : Adversary) × Allowed m σ × (lower greater v.sure w.sure k m s * m.denominator ^ k ≤ tally left right k m σ s * whole)
+    best_no : (σ : Adversary) × Allowed m σ × (lower greater v.sure w.sure k m s * m.denominator ^ k ≤ tally left right k m σ s * whole)
     best_no = let r = best_some v.sure w.sure m l k s p in (r.0, r.1, le_trans r.2 (more r.0 r.1))
 
     -- the lower end on the sure sets bounds the worst
-    pub worst_yes : (σ : Adversary) → Allowed m σ → lower lesser v.sure w.sure k m s * m.denominator ^ k ≤ tally left right k m σ s * whole
+    worst_yes : (σ : Adversary) → Allowed m σ → lower lesser v.sure w.sure k m s * m.denominator ^ k ≤ tally left right k m σ s * whole
     worst_yes σ a = le_trans (worst_none_below v.sure w.sure m l k s p σ a) (more σ a)
 
     -- some adversary is down at the upper end on the possible sets
-    pub worst_no : (σ : Adversary) × Allowed m σ × (tally left right k m σ s * whole ≤ upper lesser v.possible w.possible k m s * m.denominator ^ k)
+    worst_no : (σ : Adversary) × Allowed m σ × (tally left right k m σ s * whole ≤ upper lesser v.possible w.possible k m s * m.denominator ^ k)
     worst_no = let r = worst_some v.possible w.possible m l k s p in (r.0, r.1, le_trans (less r.0 r.1) r.2)
+
+    -- so under each comparison all tallies keep to the end that fits less easily
+    pub until_kept : (c : Comparison) (σ : Adversary) → Allowed m σ →
+        Harder c (harder_end c (lower (asked c) v.sure w.sure k m s) (upper (asked c) v.possible w.possible k m s) * m.denominator ^ k) (tally left right k m σ s * whole)
+    until_kept below = best_yes
+    until_kept at_most = best_yes
+    until_kept above = worst_yes
+    until_kept at_least = worst_yes
+
+    -- and some tally keeps to the other
+    pub until_reached : (c : Comparison) → (σ : Adversary) × Allowed m σ ×
+        Harder c (tally left right k m σ s * whole) (easier_end c (lower (asked c) v.sure w.sure k m s) (upper (asked c) v.possible w.possible k m s) * m.denominator ^ k)
+    until_reached below = best_no
+    until_reached at_most = best_no
+    until_reached above = worst_no
+    until_reached at_least = worst_no
 
     -- so the verdicts of an until with steps are correct
     pub until_within_correct : (c : Comparison) (b : ℕ) →
         Correct (until_within_verdicts c b k m v w) ((σ : Adversary) → Allowed m σ → Fits c (tally left right k m σ s * whole) (b * m.denominator ^ k)) s
-    until_within_correct below b = record { yes_holds = end_yes (λ σ. tally left right k m σ s) b k _ 0 below best_yes; holds_possible = end_no (λ σ. tally left right k m σ s) b k 0 _ below best_no }
-    until_within_correct at_most b = record { yes_holds = end_yes (λ σ. tally left right k m σ s) b k _ 0 at_most best_yes; holds_possible = end_no (λ σ. tally left right k m σ s) b k 0 _ at_most best_no }
-    until_within_correct above b = record { yes_holds = end_yes (λ σ. tally left right k m σ s) b k _ 0 above worst_yes; holds_possible = end_no (λ σ. tally left right k m σ s) b k 0 _ above worst_no }
-    until_within_correct at_least b = record { yes_holds = end_yes (λ σ. tally left right k m σ s) b k _ 0 at_least worst_yes; holds_possible = end_no (λ σ. tally left right k m σ s) b k 0 _ at_least worst_no }
+    until_within_correct c b = record {
+      yes_holds = end_yes (λ σ. tally left right k m σ s) b k _ c (until_kept c);
+      holds_possible = end_no (λ σ. tally left right k m σ s) b k _ c (until_reached c);
+    }
 
   module _ (v : VerdictSets) (set : ℕ → Bool) (x : Among m v set) where
     -- the same for next: on the sure set a tally is no larger
@@ -91,28 +106,44 @@ module _ (m : Mdp) (l : Lawful m) (s : ℕ) (p : s < m.states) where
     next_less σ a = mul-le-mul_right whole (next_below m l σ a set v.possible x.high s p)
 
     -- the upper end bounds the best
-    pub next_best_yes : (σ : Adversary) → Allowed m σ → next_tally set m σ s * whole ≤ rounds greater mix_up 1 m (start v.possible) s * m.denominator ^ 1
+    next_best_yes : (σ : Adversary) → Allowed m σ → next_tally set m σ s * whole ≤ rounds greater mix_up 1 m (start v.possible) s * m.denominator ^ 1
     next_best_yes σ a = le_trans (next_less σ a) (next_none_above v.possible m l s p σ a)
 
     -- some adversary reaches the lower end
-    pub next_best_no : (σ : Adversary) × Allowed m σ × (rounds greater mix_down 1 m (start v.sure) s * m.denominator ^ 1 ≤ next_tally set m σ s * whole)
+    next_best_no : (σ : Adversary) × Allowed m σ × (rounds greater mix_down 1 m (start v.sure) s * m.denominator ^ 1 ≤ next_tally set m σ s * whole)
     next_best_no = let r = next_best_some v.sure m l s p in (r.0, r.1, le_trans r.2 (next_more r.0 r.1))
 
     -- the lower end bounds the worst
-    pub next_worst_yes : (σ : Adversary) → Allowed m σ → rounds lesser mix_down 1 m (start v.sure) s * m.denominator ^ 1 ≤ next_tally set m σ s * whole
+    next_worst_yes : (σ : Adversary) → Allowed m σ → rounds lesser mix_down 1 m (start v.sure) s * m.denominator ^ 1 ≤ next_tally set m σ s * whole
     next_worst_yes σ a = le_trans (next_none_below v.sure m l s p σ a) (next_more σ a)
 
     -- some adversary is down at the upper end
-    pub next_worst_no : (σ : Adversary) × Allowed m σ × (next_tally set m σ s * whole ≤ rounds lesser mix_up 1 m (start v.possible) s * m.denominator ^ 1)
+    next_worst_no : (σ : Adversary) × Allowed m σ × (next_tally set m σ s * whole ≤ rounds lesser mix_up 1 m (start v.possible) s * m.denominator ^ 1)
     next_worst_no = let r = next_worst_some v.possible m l s p in (r.0, r.1, le_trans (next_less r.0 r.1) r.2)
+
+    -- so under each comparison all tallies keep to the end that fits less easily
+    pub next_kept : (c : Comparison) (σ : Adversary) → Allowed m σ →
+        Harder c (harder_end c (next_lower (asked c) v.sure m s) (next_upper (asked c) v.possible m s) * m.denominator ^ 1) (next_tally set m σ s * whole)
+    next_kept below = next_best_yes
+    next_kept at_most = next_best_yes
+    next_kept above = next_worst_yes
+    next_kept at_least = next_worst_yes
+
+    -- and some tally keeps to the other
+    pub next_reached : (c : Comparison) → (σ : Adversary) × Allowed m σ ×
+        Harder c (next_tally set m σ s * whole) (easier_end c (next_lower (asked c) v.sure m s) (next_upper (asked c) v.possible m s) * m.denominator ^ 1)
+    next_reached below = next_best_no
+    next_reached at_most = next_best_no
+    next_reached above = next_worst_no
+    next_reached at_least = next_worst_no
 
     -- so the verdicts of a next are correct
     pub next_correct : (c : Comparison) (b : ℕ) →
         Correct (next_verdicts c b m v) ((σ : Adversary) → Allowed m σ → Fits c (next_tally set m σ s * whole) (b * m.denominator ^ 1)) s
-    next_correct below b = record { yes_holds = end_yes (λ σ. next_tally set m σ s) b 1 _ 0 below next_best_yes; holds_possible = end_no (λ σ. next_tally set m σ s) b 1 0 _ below next_best_no }
-    next_correct at_most b = record { yes_holds = end_yes (λ σ. next_tally set m σ s) b 1 _ 0 at_most next_best_yes; holds_possible = end_no (λ σ. next_tally set m σ s) b 1 0 _ at_most next_best_no }
-    next_correct above b = record { yes_holds = end_yes (λ σ. next_tally set m σ s) b 1 _ 0 above next_worst_yes; holds_possible = end_no (λ σ. next_tally set m σ s) b 1 0 _ above next_worst_no }
-    next_correct at_least b = record { yes_holds = end_yes (λ σ. next_tally set m σ s) b 1 _ 0 at_least next_worst_yes; holds_possible = end_no (λ σ. next_tally set m σ s) b 1 0 _ at_least next_worst_no }
+    next_correct c b = record {
+      yes_holds = end_yes (λ σ. next_tally set m σ s) b 1 _ c (next_kept c);
+      holds_possible = end_no (λ σ. next_tally set m σ s) b 1 _ c (next_reached c);
+    }
 
   -- the verdicts of an until without steps are correct
   pub extremal_correct : (o : Extremal) (v w : VerdictSets) (left right : ℕ → Bool) → Among m v left → Among m w right → Correct (extremal_verdicts o m v w) (WithoutSteps o left right m s) s
@@ -131,7 +162,7 @@ module _ (m : Mdp) (l : Lawful m) (s : ℕ) (p : s < m.states) where
 
   -- the same by the bound that an until without steps stands under
   pub until_correct : (o : Option Extremal) (v w : VerdictSets) (left right : ℕ → Bool) → Among m v left → Among m w right → Correct (until_verdicts o m v w) (Under o left right m s) s
-  until_correct None v w left right x y = record { yes_holds = λ e. true_not_false false e refl; holds_possible = λ h. absurd h }
+  until_correct None v w left right x y = record { yes_holds = λ e. absurd (both_ways false refl e); holds_possible = λ h. absurd h }
   until_correct (Some o) v w left right x y = extremal_correct o v w left right x y
 
 -- the set of a formula lies between the sure states and the possible ones of correct verdicts
@@ -143,11 +174,11 @@ mutual
   sound m l truth s p = record { yes_holds = λ e. tt; holds_possible = λ h. refl }
   sound m l (label i) s p = record { yes_holds = λ e. e; holds_possible = λ h. h }
   sound m l (negation f) s p = let r = sound m l f s p in record {
-    yes_holds = λ e x. true_not_false ((verdicts m f).possible s) (r.holds_possible x) (not_yes _ e);
-    holds_possible = λ n. elim (which ((verdicts m f).sure s)) [ inl e ↦ absurd (n (r.yes_holds e)) | inr e ↦ ap not e ];
+    yes_holds = λ e x. absurd (both_ways ((verdicts m f).possible s) (not-true _ e) (r.holds_possible x));
+    holds_possible = λ n. elim (cases_Bool ((verdicts m f).sure s)) [ inl e ↦ absurd (n (r.yes_holds e)) | inr e ↦ ap not e ];
   }
   sound m l (conjunction f g) s p = let r = sound m l f s p in let q = sound m l g s p in record {
-    yes_holds = λ e. let x = and_yes ((verdicts m f).sure s) ((verdicts m g).sure s) e in (r.yes_holds x.0, q.yes_holds x.1);
+    yes_holds = λ e. let x = and_parts ((verdicts m f).sure s) ((verdicts m g).sure s) e in (r.yes_holds x.0, q.yes_holds x.1);
     holds_possible = λ h. rw (r.holds_possible h.0, q.holds_possible h.1);
   }
   sound m l (probability c b q) s p = path_sound m l c b q s p

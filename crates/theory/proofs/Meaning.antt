@@ -1,33 +1,24 @@
 -- Every formula has a set: what it says of a state is decided.
-use Rattle.std.proofs.Common.{◌≡◌, ℕ, ◌*◌, ◌^◌, ◌<◌, Bool, true, false, not, ◌&&◌, ◌↔◌, [], Some, None, Option, sym, refl, ap, inl, inr, le_trans, lt_of_lt_of_le, le_antisymm, mul-le-mul_left, arith}
+use Rattle.std.proofs.Common.{◌≡◌, ℕ, ◌*◌, ◌^◌, ◌<◌, Bool, true, false, not, ◌&&◌, ◌↔◌, [], Some, None, Option, refl, ap, inl, inr, le_trans, lt_of_lt_of_le, le_antisymm, mul-le-mul_left, arith}
+use Rattle.theory.specs.Rules.{RuleLaws}
+use Rattle.std.proofs.lemmas.Bool.{cases_Bool, both_ways, and_parts, not-true}
 use Rattle.model.specs.Mdp.{Mdp, Lawful}
 use Rattle.theory.specs.Adversaries.{Adversary, Allowed}
 use Rattle.theory.specs.Tallies.{tally, next_tally}
 use Rattle.theory.specs.Rounds.{rounds}
-use Rattle.theory.specs.Mixes.{no_first, yes_first, whole, greater, lesser}
+use Rattle.theory.specs.Mixes.{no_first, yes_first, whole}
 use Rattle.theory.specs.WithoutSteps.{MarksDecide, Positive, Never, Certain, unmarked, Extremal, over_none, at_most_none, at_least_whole, WithoutSteps, marked_set}
-use Rattle.theory.specs.Formulas.{PathFormula, PathHolds, probability, until_within, until, extremal, Under, Comparison, below, at_most, above, at_least, Formula, truth, label, negation, conjunction, next, Fits, SetOf, Holds, has_label}
-use Rattle.theory.specs.Verdicts.{fits}
+use Rattle.theory.specs.Formulas.{PathFormula, PathHolds, probability, until_within, until, extremal, Under, Comparison, Formula, truth, label, negation, conjunction, next, Fits, SetOf, Holds, has_label}
+use Rattle.theory.specs.Verdicts.{fits, asked}
 use Rattle.theory.specs.Distances.{Harder}
 use Rattle.theory.specs.Ends.{held}
 use Rattle.theory.proofs.RuleLaws.{marks_greater, marks_lesser}
-use Rattle.theory.proofs.Lists.{true_not_false, which}
-use Rattle.theory.proofs.Exact.{mix_sum, one_in, best_tally, worst_tally, best_largest, best_reached, worst_smallest, worst_reached}
-use Rattle.theory.proofs.Between.{Subset, tally_below, next_below, next_largest, next_smallest, next_largest_is, next_smallest_is}
-use Rattle.theory.proofs.Compare.{fits_test, fits_harder, harder_times}
+use Rattle.theory.proofs.Exact.{mix_sum, one_in, best_tally, tally_best, tally_reached, sum_greater, sum_lesser}
+use Rattle.theory.proofs.Between.{Subset, tally_below, next_below, next_tally_best, next_tally_reached}
+use Rattle.theory.proofs.Compare.{fits_test, fits_harder, harder_times, asked_laws, asked_harder}
 use Rattle.theory.proofs.WithoutSteps.{held_lawful, positive_iff, never_iff}
 use Rattle.theory.proofs.Sure.{certain_iff}
 use Rattle.theory.proofs.Settle.{settled_by, all_settled, some_settled, unmarked_settled}
-
--- what is not, is false
-pub not_yes : (b : Bool) → not b ≡ true → b ≡ false
-not_yes true e = sym e
-not_yes false e = refl
-
--- both are true
-pub and_yes : (x y : Bool) → (x && y) ≡ true → (x ≡ true) × (y ≡ true)
-and_yes true y e = (refl, e)
-and_yes false y e = true_not_false false e refl
 
 -- two sets of the same states
 pub set_sub : (m : Mdp) (P : ℕ → Type 0) (f g : ℕ → Bool) → SetOf m P f → SetOf m P g → Subset m f g
@@ -35,46 +26,32 @@ set_sub m P f g x y s p e = (y s p).1 ((x s p).0 e)
 
 -- the tally that is hardest to fit
 abbrev pub hardest : Comparison → (ℕ → Bool) → (ℕ → Bool) → ℕ → Mdp → ℕ → ℕ
-hardest below left right k m s = best_tally left right k m s
-hardest at_most left right k m s = best_tally left right k m s
-hardest above left right k m s = worst_tally left right k m s
-hardest at_least left right k m s = worst_tally left right k m s
+hardest c left right k m s = best_tally (asked c) left right k m s
 
 -- the same for next
 abbrev pub hardest_next : Comparison → (ℕ → Bool) → Mdp → ℕ → ℕ
-hardest_next below set m s = rounds greater mix_sum 1 m (one_in set) s
-hardest_next at_most set m s = rounds greater mix_sum 1 m (one_in set) s
-hardest_next above set m s = rounds lesser mix_sum 1 m (one_in set) s
-hardest_next at_least set m s = rounds lesser mix_sum 1 m (one_in set) s
+hardest_next c set m s = rounds (asked c) mix_sum 1 m (one_in set) s
+
+-- plain sums are a lawful rule with the preference of each comparison
+sum_laws : (c : Comparison) → RuleLaws (asked c) mix_sum
+sum_laws = asked_laws mix_sum sum_greater sum_lesser
 
 module _ (m : Mdp) (l : Lawful m) (s : ℕ) (p : s < m.states) where
   -- no adversary is harder
   pub hardest_bound : (c : Comparison) (left right : ℕ → Bool) (k : ℕ) (σ : Adversary) → Allowed m σ → Harder c (hardest c left right k m s) (tally left right k m σ s)
-  hardest_bound below left right k = best_largest left right m l k s p
-  hardest_bound at_most left right k = best_largest left right m l k s p
-  hardest_bound above left right k = worst_smallest left right m l k s p
-  hardest_bound at_least left right k = worst_smallest left right m l k s p
+  hardest_bound c left right k σ a = asked_harder c _ _ (tally_best (asked c) (sum_laws c) left right m l k s p σ a)
 
   -- some adversary has it
   pub hardest_is : (c : Comparison) (left right : ℕ → Bool) (k : ℕ) → (σ : Adversary) × Allowed m σ × (tally left right k m σ s ≡ hardest c left right k m s)
-  hardest_is below left right k = best_reached left right m l k s p
-  hardest_is at_most left right k = best_reached left right m l k s p
-  hardest_is above left right k = worst_reached left right m l k s p
-  hardest_is at_least left right k = worst_reached left right m l k s p
+  hardest_is c left right k = tally_reached (asked c) (sum_laws c) left right m l k s p
 
-  -- no adversary is harder
+  -- no adversary is harder for a next
   pub hardest_next_bound : (c : Comparison) (set : ℕ → Bool) (σ : Adversary) → Allowed m σ → Harder c (hardest_next c set m s) (next_tally set m σ s)
-  hardest_next_bound below set = next_largest set m l s p
-  hardest_next_bound at_most set = next_largest set m l s p
-  hardest_next_bound above set = next_smallest set m l s p
-  hardest_next_bound at_least set = next_smallest set m l s p
+  hardest_next_bound c set σ a = asked_harder c _ _ (next_tally_best (asked c) (sum_laws c) set m l s p σ a)
 
   -- some adversary has it
   pub hardest_next_is : (c : Comparison) (set : ℕ → Bool) → (σ : Adversary) × Allowed m σ × (next_tally set m σ s ≡ hardest_next c set m s)
-  hardest_next_is below set = next_largest_is set m l s p
-  hardest_next_is at_most set = next_largest_is set m l s p
-  hardest_next_is above set = next_smallest_is set m l s p
-  hardest_next_is at_least set = next_smallest_is set m l s p
+  hardest_next_is c set = next_tally_reached (asked c) (sum_laws c) set m l s p
 
   -- all adversaries fit a bound exactly if the hardest tally does
   pub next_iff : (c : Comparison) (b : ℕ) (set : ℕ → Bool) → (fits c (hardest_next c set m s * whole) (b * m.denominator ^ 1) ≡ true) ↔
@@ -120,9 +97,9 @@ module _ (m : Mdp) (l : Lawful m) (s : ℕ) (p : s < m.states) where
   pub marked_iff : (o : Extremal) (left right : ℕ → Bool) → (marked_set o left right m s ≡ true) ↔ WithoutSteps o left right m s
   marked_iff over_none left right = positive_iff left right m l m.states (all_settled left right m l) s p
   marked_iff at_most_none left right = let r = never_iff left right m l m.states (some_settled left right m l) s p in
-      (λ e. r.0 (not_yes _ e), λ h. ap not (r.1 h))
+      (λ e. r.0 (not-true _ e), λ h. ap not (r.1 h))
   marked_iff at_least_whole left right = let r = certain_iff left right m l m.states (all_settled left right m l) m.states (unmarked_settled left right m l) s p in
-      (λ e. r.0 (not_yes _ e), λ h. ap not (r.1 h))
+      (λ e. r.0 (not-true _ e), λ h. ap not (r.1 h))
 
   -- equal sets say the same
   pub without_steps_same : (o : Extremal) (left left' right right' : ℕ → Bool) → Subset m left left' → Subset m left' left → Subset m right right' → Subset m right' right →
@@ -151,7 +128,7 @@ under_set (Some o) left right m s = marked_set o left right m s
 module _ (m : Mdp) (l : Lawful m) (s : ℕ) (p : s < m.states) where
   -- it is the right one
   pub under_iff : (o : Option Extremal) (left right : ℕ → Bool) → (under_set o left right m s ≡ true) ↔ Under o left right m s
-  under_iff None left right = (λ e. true_not_false false e refl, λ h. absurd h)
+  under_iff None left right = (λ e. absurd (both_ways false refl e), λ h. absurd h)
   under_iff (Some o) left right = marked_iff m l s p o left right
 
   -- only the states of the sets count
@@ -168,14 +145,14 @@ mutual
   decided m l (negation f) = let r = decided m l f in (
     λ s. not (r.0 s),
     λ s p. (
-      λ e x. true_not_false (r.0 s) ((r.1 s p).1 x) (not_yes (r.0 s) e),
-      λ n. elim (which (r.0 s)) [ inl e ↦ absurd (n ((r.1 s p).0 e)) | inr e ↦ ap not e ],
+      λ e x. absurd (both_ways (r.0 s) (not-true (r.0 s) e) ((r.1 s p).1 x)),
+      λ n. elim (cases_Bool (r.0 s)) [ inl e ↦ absurd (n ((r.1 s p).0 e)) | inr e ↦ ap not e ],
     ),
   )
   decided m l (conjunction f g) = let r = decided m l f in let q = decided m l g in (
     λ s. r.0 s && q.0 s,
     λ s p. (
-      λ e. let x = and_yes (r.0 s) (q.0 s) e in ((r.1 s p).0 x.0, (q.1 s p).0 x.1),
+      λ e. let x = and_parts (r.0 s) (q.0 s) e in ((r.1 s p).0 x.0, (q.1 s p).0 x.1),
       λ h. rw ((r.1 s p).1 h.0, (q.1 s p).1 h.1),
     ),
   )

@@ -1,32 +1,26 @@
 -- An undecided verdict over decided parts lies near the bound. Every formula has exactly one set.
-use Rattle.std.proofs.Common.{◌≡◌, ℕ, ◌*◌, ◌^◌, ◌<◌, ◌≤◌, Bool, Some, None, Option, sym, refl, ◌∙◌, subst, inl, inr, le_trans, mul-le-mul_right, arith, ltb-false, ltb-true, leb-false, leb-true}
+use Rattle.std.proofs.Common.{◌≡◌, ℕ, ◌*◌, ◌^◌, ◌<◌, ◌≤◌, Bool, Some, None, Option, sym, refl, subst, le_trans, mul-le-mul_right, arith, ltb-false, ltb-true, leb-false, leb-true, true, false}
+use Rattle.std.proofs.lemmas.Bool.Decides.{same_from_decides}
+use Rattle.theory.proofs.Compare.{asked_laws}
 use Rattle.model.specs.Mdp.{Mdp, Lawful}
 use Rattle.theory.specs.Adversaries.{Adversary, Allowed}
 use Rattle.theory.specs.Tallies.{tally, next_tally}
-use Rattle.theory.specs.Rounds.{rounds}
-use Rattle.theory.specs.Mixes.{whole, mix_down, mix_up, greater, lesser}
-use Rattle.theory.specs.Ends.{Close, start, lower, upper}
+use Rattle.theory.specs.Mixes.{whole, mix_up}
+use Rattle.theory.specs.Ends.{Close, start, lower, next_lower}
 use Rattle.theory.specs.WithoutSteps.{Extremal, over_none, at_most_none, at_least_whole}
 use Rattle.theory.specs.Formulas.{OneSet, probability, until_within, Comparison, below, at_most, above, at_least, Formula, next, SetOf, Holds}
-use Rattle.theory.specs.Verdicts.{asked, easier_end, VerdictSets, next_verdicts, until_within_verdicts, known}
+use Rattle.theory.specs.Verdicts.{asked, easier_end, VerdictSets, next_verdicts, until_within_verdicts, known, harder_end, fits}
 use Rattle.theory.specs.Distances.{QueriesCorrect, Harder, StateValue, WithinUnits, Decided, Undecided}
 use Rattle.theory.proofs.Found.{until_verdicts, verdicts}
-use Rattle.theory.proofs.Lists.{true_not_false, which}
 use Rattle.theory.proofs.RuleLaws.{up_greater, up_lesser}
-use Rattle.theory.proofs.Ends.{best_some, worst_some, best_close, worst_close, greater_close, lesser_close, rounds_close}
+use Rattle.theory.proofs.Ends.{greater_close, lesser_close, rounds_close, ends_close, KeepsClose}
 use Rattle.theory.proofs.Alike.{held_alike, next_alike, marked_alike}
 use Rattle.theory.proofs.Meaning.{decided, hardest, hardest_next, hardest_bound, hardest_is, hardest_next_bound, hardest_next_is}
-use Rattle.theory.proofs.Judge.{end_fails, until_within_correct, Among, sound, among, best_yes, best_no, worst_yes, worst_no, next_best_yes, next_best_no, next_worst_yes, next_worst_no}
+use Rattle.theory.proofs.Judge.{end_fails, until_within_correct, Among, sound, among, until_kept, until_reached, next_kept, next_reached}
 
 -- one set
 pub same_set : (m : Mdp) (P : ℕ → Type 0) (f g : ℕ → Bool) → SetOf m P f → SetOf m P g → (s : ℕ) → s < m.states → f s ≡ g s
-same_set m P f g x y s p = elim (which (f s)) [
-  | inl e ↦ e ∙ sym ((y s p).1 ((x s p).0 e))
-  | inr e ↦ elim (which (g s)) [
-    | inl q ↦ true_not_false (f s) ((x s p).1 ((y s p).0 q)) e
-    | inr q ↦ e ∙ sym q
-  ]
-]
+same_set m P f g x y s p = same_from_decides (f s) (g s) (x s p) (y s p)
 
 -- exactly one: there is a set of the states of which a formula holds, and every other is the same below n
 pub one_set : (m : Mdp) → Lawful m → (f : Formula) → (set : ℕ → Bool) × SetOf m (Holds m f) set ×
@@ -56,54 +50,40 @@ module _ (m : Mdp) (l : Lawful m) (s : ℕ) (p : s < m.states) (tallied : Advers
       near_best k b d lo hi x close (rw at.2 at (below_all at.0 at.1))
       (le_trans (mul-le-mul_right whole (all some.0 some.1)) some.2) u v
 
+  -- so under each comparison a value lies near the bound that the harder end does not fit and the easier one does
+  between : (c : Comparison) → ((σ : Adversary) → Allowed m σ → Harder c (harder_end c lo hi * d) (tallied σ * whole)) →
+      (σ : Adversary) × Allowed m σ × Harder c (tallied σ * whole) (easier_end c lo hi * d) →
+      StateValue c m tallied x → fits c (harder_end c lo hi) b ≡ false → fits c (easier_end c lo hi) b ≡ true → WithinUnits k b d x
+  between below all some value u v = let i = ltb-false hi b u in let j = ltb-true lo b v in best_between all some value.attained value.kept (omega arith) (omega arith)
+  between at_most all some value u v = let i = leb-false hi b u in let j = leb-true lo b v in best_between all some value.attained value.kept (omega arith) (omega arith)
+  between above all some value u v = let i = ltb-false b lo u in let j = ltb-true b hi v in worst_between all some value.attained value.kept (omega arith) (omega arith)
+  between at_least all some value u v = let i = leb-false b lo u in let j = leb-true b hi v in worst_between all some value.attained value.kept (omega arith) (omega arith)
+
+-- the preference of each comparison takes close numbers from close ones
+asked_close : (c : Comparison) → KeepsClose (asked c)
+asked_close below = greater_close
+asked_close at_most = greater_close
+asked_close above = lesser_close
+asked_close at_least = lesser_close
+
 module _ (m : Mdp) (l : Lawful m) (s : ℕ) (p : s < m.states) (v w : VerdictSets) (x : Decided m v) (y : Decided m w) (k : ℕ)
     (left right : ℕ → Bool) (f : Among m v left) (g : Among m w right) (b n : ℕ) where
-  -- an until for the best, over decided parts
-  best_near : (σ : Adversary) × Allowed m σ × (tally left right k m σ s ≡ n) → ((σ : Adversary) → Allowed m σ → tally left right k m σ s ≤ n) →
-      lower greater v.sure w.sure k m s ≤ b → b ≤ upper greater v.possible w.possible k m s → WithinUnits k b (m.denominator ^ k) n
-  best_near = best_between m l s p (λ σ. tally left right k m σ s) b k (m.denominator ^ k) n _ _
-      (subst (λ z. Close k (lower greater v.sure w.sure k m s) z) (held_alike m l s p greater mix_up up_greater v.sure v.possible w.sure w.possible x y k)
-      (best_close v.sure w.sure m l k s p))
-      (best_yes m l s p v w left right f g k) (best_no m l s p v w left right f g k)
-
-  -- and for the worst
-  worst_near : (σ : Adversary) × Allowed m σ × (tally left right k m σ s ≡ n) → ((σ : Adversary) → Allowed m σ → n ≤ tally left right k m σ s) →
-      lower lesser v.sure w.sure k m s ≤ b → b ≤ upper lesser v.possible w.possible k m s → WithinUnits k b (m.denominator ^ k) n
-  worst_near = worst_between m l s p (λ σ. tally left right k m σ s) b k (m.denominator ^ k) n _ _
-      (subst (λ z. Close k (lower lesser v.sure w.sure k m s) z) (held_alike m l s p lesser mix_up up_lesser v.sure v.possible w.sure w.possible x y k)
-      (worst_close v.sure w.sure m l k s p))
-      (worst_yes m l s p v w left right f g k) (worst_no m l s p v w left right f g k)
-
   -- an undecided verdict over decided parts: the value lies within k units of the bound
   pub within_near : (c : Comparison) → Undecided (until_within_verdicts c b k m v w) s → StateValue c m (λ σ. tally left right k m σ s) n → WithinUnits k b (m.denominator ^ k) n
-  within_near below u e = let i = ltb-false _ _ u.not_sure in let j = ltb-true _ _ u.is_possible in best_near e.attained e.kept (omega arith) (omega arith)
-  within_near at_most u e = let i = leb-false _ _ u.not_sure in let j = leb-true _ _ u.is_possible in best_near e.attained e.kept (omega arith) (omega arith)
-  within_near above u e = let i = ltb-false _ _ u.not_sure in let j = ltb-true _ _ u.is_possible in worst_near e.attained e.kept (omega arith) (omega arith)
-  within_near at_least u e = let i = leb-false _ _ u.not_sure in let j = leb-true _ _ u.is_possible in worst_near e.attained e.kept (omega arith) (omega arith)
+  within_near c u e = between m l s p (λ σ. tally left right k m σ s) b k (m.denominator ^ k) n _ _
+      (subst (λ z. Close k (lower (asked c) v.sure w.sure k m s) z)
+      (held_alike m l s p (asked c) mix_up (asked_laws mix_up up_greater up_lesser c) v.sure v.possible w.sure w.possible x y k)
+      (ends_close (asked c) (asked_close c) v.sure w.sure m l k s p))
+      c (until_kept m l s p v w left right f g k c) (until_reached m l s p v w left right f g k c) e u.not_sure u.is_possible
 
 module _ (m : Mdp) (l : Lawful m) (s : ℕ) (p : s < m.states) (v : VerdictSets) (x : Decided m v) (set : ℕ → Bool) (f : Among m v set) (b n : ℕ) where
-  -- a next for the best
-  next_best_near : (σ : Adversary) × Allowed m σ × (next_tally set m σ s ≡ n) → ((σ : Adversary) → Allowed m σ → next_tally set m σ s ≤ n) →
-      rounds greater mix_down 1 m (start v.sure) s ≤ b → b ≤ rounds greater mix_up 1 m (start v.possible) s → WithinUnits 1 b (m.denominator ^ 1) n
-  next_best_near = best_between m l s p (λ σ. next_tally set m σ s) b 1 (m.denominator ^ 1) n _ _
-      (subst (λ z. Close 1 (rounds greater mix_down 1 m (start v.sure) s) z) (next_alike m l s p greater mix_up up_greater v.sure v.possible x)
-      (rounds_close greater greater_close m l (start v.sure) 1 s p))
-      (next_best_yes m l s p v set f) (next_best_no m l s p v set f)
-
-  -- and for the worst
-  next_worst_near : (σ : Adversary) × Allowed m σ × (next_tally set m σ s ≡ n) → ((σ : Adversary) → Allowed m σ → n ≤ next_tally set m σ s) →
-      rounds lesser mix_down 1 m (start v.sure) s ≤ b → b ≤ rounds lesser mix_up 1 m (start v.possible) s → WithinUnits 1 b (m.denominator ^ 1) n
-  next_worst_near = worst_between m l s p (λ σ. next_tally set m σ s) b 1 (m.denominator ^ 1) n _ _
-      (subst (λ z. Close 1 (rounds lesser mix_down 1 m (start v.sure) s) z) (next_alike m l s p lesser mix_up up_lesser v.sure v.possible x)
-      (rounds_close lesser lesser_close m l (start v.sure) 1 s p))
-      (next_worst_yes m l s p v set f) (next_worst_no m l s p v set f)
-
   -- next: within one unit
   pub next_near : (c : Comparison) → Undecided (next_verdicts c b m v) s → StateValue c m (λ σ. next_tally set m σ s) n → WithinUnits 1 b (m.denominator ^ 1) n
-  next_near below u e = let i = ltb-false _ _ u.not_sure in let j = ltb-true _ _ u.is_possible in next_best_near e.attained e.kept (omega arith) (omega arith)
-  next_near at_most u e = let i = leb-false _ _ u.not_sure in let j = leb-true _ _ u.is_possible in next_best_near e.attained e.kept (omega arith) (omega arith)
-  next_near above u e = let i = ltb-false _ _ u.not_sure in let j = ltb-true _ _ u.is_possible in next_worst_near e.attained e.kept (omega arith) (omega arith)
-  next_near at_least u e = let i = leb-false _ _ u.not_sure in let j = leb-true _ _ u.is_possible in next_worst_near e.attained e.kept (omega arith) (omega arith)
+  next_near c u e = between m l s p (λ σ. next_tally set m σ s) b 1 (m.denominator ^ 1) n _ _
+      (subst (λ z. Close 1 (next_lower (asked c) v.sure m s) z)
+      (next_alike m l s p (asked c) mix_up (asked_laws mix_up up_greater up_lesser c) v.sure v.possible x)
+      (rounds_close (asked c) (asked_close c) m l (start v.sure) 1 s p))
+      c (next_kept m l s p v set f c) (next_reached m l s p v set f c) e u.not_sure u.is_possible
 
 -- of formulas: parts without a 2, and the sets of which they hold
 pub formula_near : (m : Mdp) → Lawful m → (c : Comparison) (b k : ℕ) (f g : Formula) → Decided m (verdicts m f) → Decided m (verdicts m g) →
@@ -143,20 +123,12 @@ extremal_decided m l (Some at_least_whole) v w x y s p = marked_alike m l s p at
 known_among : (m : Mdp) (set : ℕ → Bool) → Among m (known set) set
 known_among m set = record { low = λ t q e. e; high = λ t q e. e }
 
--- the end that some adversary does not lie beyond, for every comparison
-query_some : (c : Comparison) (k : ℕ) (left right : ℕ → Bool) (m : Mdp) → Lawful m → (s : ℕ) → s < m.states →
-    (σ : Adversary) × Allowed m σ × Harder c (tally left right k m σ s * whole)
-    (easier_end c (lower (asked c) left right k m s) (upper (asked c) left right k m s) * m.denominator ^ k)
-query_some below k left right m l s p = best_some left right m l k s p
-query_some at_most k left right m l s p = best_some left right m l k s p
-query_some above k left right m l s p = worst_some left right m l k s p
-query_some at_least k left right m l s p = worst_some left right m l k s p
-
 -- what the verdicts of a query tell
 pub queries_correct : QueriesCorrect
 queries_correct c b k left right m l s p = record {
   yes_holds = (until_within_correct m l s p (known left) (known right) left right (known_among m left) (known_among m right) k c b).yes_holds;
-  no_fails = end_fails m l s p (λ σ. tally left right k m σ s) b k _ c (query_some c k left right m l s p);
+  no_fails = end_fails m l s p (λ σ. tally left right k m σ s) b k _ c
+      (until_reached m l s p (known left) (known right) left right (known_among m left) (known_among m right) k c);
   undecided_near = λ u. let e = within_value m l s p c left right k in (
     hardest c left right k m s,
     e,

@@ -1,16 +1,17 @@
 -- k rounds give the most preferred value among the adversaries.
-use Rattle.std.proofs.Common.{◌≡◌, ℕ, zero, suc, ◌+◌, ◌-◌, ◌<◌, ◌≤◌, Bool, true, false, cond, List, [], ◌∷◌, ◌++◌, map, length, get_or, sym, refl, ap, ◌∙◌, subst, ⊎_elim, append_assoc, suc-le-suc, le_of_suc-le-suc, not-suc-le-zero, add-zero, zero-add, arith}
+use Rattle.std.proofs.Common.{◌≡◌, ℕ, zero, suc, ◌+◌, ◌-◌, ◌<◌, ◌≤◌, Bool, true, List, [], ◌∷◌, ◌++◌, map, length, get_or, sym, refl, ap, ◌∙◌, subst, ⊎_elim, append_assoc, suc-le-suc, le_of_suc-le-suc, not-suc-le-zero, add-zero, zero-add, arith, inl, inr}
+use Rattle.std.proofs.lemmas.List.{length-map, get_or-map}
+use Rattle.std.proofs.lemmas.Bool.{both_ways, cases_Bool}
 use Rattle.model.specs.Mdp.{Mdp, Row, Each, Lawful, LawfulRow, Ascends, total, row}
 use Rattle.model.specs.declared.branch.Branch.{Branch}
 use Rattle.theory.specs.Adversaries.{AnAdversaryExists, Adversary, Allowed, chosen}
 use Rattle.theory.specs.Rules.{LawfulMix, RuleLaws, total_weight, valued}
 use Rattle.theory.specs.Rounds.{Optimum, most, most_of, mixed, value, round, rounds}
-use Rattle.theory.proofs.Lists.{each_at, length_map, get_or_map, true_not_false}
+use Rattle.theory.proofs.Lists.{each_at}
 
 -- every target of a row lies below n
 abbrev pub Within : ℕ → Row → Type 0
-Within n [] = Unit {0}
-Within n (b ∷ bs) = (b.target < n) × Within n bs
+Within n r = Each (λ (b : Branch). b.target < n) r
 
 -- the targets of a lawful row do
 pub ascends_within : (n low : ℕ) (r : Row) → Ascends n low r → Within n r
@@ -57,16 +58,19 @@ module _ {V : Type 0} where
     sums = weight_after before v r ∙ e;
   }
 
+  -- rows with the same values at the states
+  pub valued_same : (n : ℕ) (f g : ℕ → V) (r : Row) → Within n r → ((t : ℕ) → t < n → f t ≡ g t) → valued f r ≡ valued g r
+  valued_same n f g [] w e = refl
+  valued_same n f g (b ∷ bs) w e = rw (e b.target w.0, valued_same n f g bs w.1 e)
+
 module _ {V : Type 0} (at_least_as_good : V → V → Bool) where
   -- where the most preferred stands
   pub most_at : (d x : V) (xs : List V) → (i : ℕ) × (i < suc (length xs)) × (get_or (x ∷ xs) i d ≡ most at_least_as_good x xs)
   most_at d x [] = (0, omega arith, refl)
-  most_at d x (y ∷ ys) = go (at_least_as_good x (most at_least_as_good y ys)) refl (most_at d y ys)
-    where
-      go : (b : Bool) → at_least_as_good x (most at_least_as_good y ys) ≡ b → (i : ℕ) × (i < suc (length ys)) × (get_or (y ∷ ys) i d ≡ most at_least_as_good y ys) →
-          (i : ℕ) × (i < suc (suc (length ys))) × (get_or (x ∷ y ∷ ys) i d ≡ cond (at_least_as_good x (most at_least_as_good y ys)) x (most at_least_as_good y ys))
-      go true e r = (0, omega arith, rw e)
-      go false e r = (suc r.0, suc-le-suc r.1, rw e r.2)
+  most_at d x (y ∷ ys) = let r = most_at d y ys in elim (cases_Bool (at_least_as_good x (most at_least_as_good y ys))) [
+    | inl e ↦ (0, omega arith, rw e)
+    | inr e ↦ (suc r.0, suc-le-suc r.1, rw e r.2)
+  ]
 
   -- of a list, empty or not
   pub most_of_at : (d e : V) (xs : List V) → (i : ℕ) × (1 ≤ length xs → (i < length xs) × (get_or xs i e ≡ most_of at_least_as_good d xs))
@@ -78,17 +82,14 @@ module _ {V : Type 0} (at_least_as_good : V → V → Bool) (mix : ℕ → List 
   pub most_best : (d x : V) (xs : List V) (i : ℕ) → i < suc (length xs) → at_least_as_good (most at_least_as_good x xs) (get_or (x ∷ xs) i d) ≡ true
   most_best d x [] zero h = laws.reflexive x
   most_best d x [] (suc i) h = absurd (not-suc-le-zero (le_of_suc-le-suc h))
-  most_best d x (y ∷ ys) zero h = go (at_least_as_good x (most at_least_as_good y ys)) refl
-    where
-      go : (b : Bool) → at_least_as_good x (most at_least_as_good y ys) ≡ b → at_least_as_good (cond (at_least_as_good x (most at_least_as_good y ys)) x (most at_least_as_good y ys)) x ≡ true
-      go true e = rw e (laws.reflexive x)
-      go false e = rw e (⊎_elim (λ p. true_not_false (at_least_as_good x (most at_least_as_good y ys)) p e) (λ p. p) (laws.complete x (most at_least_as_good y ys)))
-  most_best d x (y ∷ ys) (suc i) h = go (at_least_as_good x (most at_least_as_good y ys)) refl (most_best d y ys i (le_of_suc-le-suc h))
-    where
-      go : (b : Bool) → at_least_as_good x (most at_least_as_good y ys) ≡ b → at_least_as_good (most at_least_as_good y ys) (get_or (y ∷ ys) i d) ≡ true →
-          at_least_as_good (cond (at_least_as_good x (most at_least_as_good y ys)) x (most at_least_as_good y ys)) (get_or (y ∷ ys) i d) ≡ true
-      go true e r = rw e (laws.transitive x (most at_least_as_good y ys) (get_or (y ∷ ys) i d) e r)
-      go false e r = rw e r
+  most_best d x (y ∷ ys) zero h = elim (cases_Bool (at_least_as_good x (most at_least_as_good y ys))) [
+    | inl e ↦ rw e (laws.reflexive x)
+    | inr e ↦ rw e (⊎_elim (λ p. absurd (both_ways (at_least_as_good x (most at_least_as_good y ys)) e p)) (λ p. p) (laws.complete x (most at_least_as_good y ys)))
+  ]
+  most_best d x (y ∷ ys) (suc i) h = let r = most_best d y ys i (le_of_suc-le-suc h) in elim (cases_Bool (at_least_as_good x (most at_least_as_good y ys))) [
+    | inl e ↦ rw e (laws.transitive x (most at_least_as_good y ys) (get_or (y ∷ ys) i d) e r)
+    | inr e ↦ rw e r
+  ]
 
   -- of a list, empty or not
   pub most_of_best : (d e : V) (xs : List V) (i : ℕ) → i < length xs → at_least_as_good (most_of at_least_as_good d xs) (get_or xs i e) ≡ true
@@ -116,8 +117,8 @@ module _ {V : Type 0} (at_least_as_good : V → V → Bool) (mix : ℕ → List 
 
   -- a round gives what is at least as preferred as the mix of each choice
   pub round_best : (m : Mdp) (v : ℕ → V) (s c : ℕ) → c < length (m.choices s) → at_least_as_good (round at_least_as_good mix m v s) (mixed mix m v (row m s c)) ≡ true
-  round_best m v s c h = rw (get_or_map (mixed mix m v) (m.choices s) c [] (v s) h) at
-      (most_of_best (v s) (v s) (map (mixed mix m v) (m.choices s)) c (rw length_map h))
+  round_best m v s c h = rw (get_or-map (mixed mix m v) (m.choices s) c [] (v s) h) at
+      (most_of_best (v s) (v s) (map (mixed mix m v) (m.choices s)) c (rw length-map h))
 
   -- no allowed adversary's value is preferred to what the rounds give
   pub none_better : (m : Mdp) → Lawful m → (v : ℕ → V) (σ : Adversary) → Allowed m σ → (k : ℕ) (h : List ℕ) (s : ℕ) → s < m.states →
@@ -135,9 +136,9 @@ module _ {V : Type 0} (at_least_as_good : V → V → Bool) (mix : ℕ → List 
   choose m v s =
       let r = most_of_at at_least_as_good (v s) (v s) (map (mixed mix m v) (m.choices s)) in (
         r.0,
-        λ h. let q = r.1 (rw length_map h) in
-            let i : r.0 < length (m.choices s) = rw length_map at q.0 in
-            (i, sym (get_or_map (mixed mix m v) (m.choices s) r.0 [] (v s) i) ∙ q.1),
+        λ h. let q = r.1 (rw length-map h) in
+            let i : r.0 < length (m.choices s) = rw length-map at q.0 in
+            (i, sym (get_or-map (mixed mix m v) (m.choices s) r.0 [] (v s) i) ∙ q.1),
       )
 
   -- better values make a round no worse
@@ -185,11 +186,6 @@ module _ {V : Type 0} (at_least_as_good : V → V → Bool) (mix : ℕ → List 
       let e2 : k - length (s ∷ h) ≡ j = omega arith in
       subst (λ x. mixed mix m (rounds at_least_as_good mix j m v) (row m s (choose m (rounds at_least_as_good mix x m v) s).0) ≡ round at_least_as_good mix m (rounds at_least_as_good mix j m v) s)
       (sym e2) ((choose m (rounds at_least_as_good mix j m v) s).1 (l.some_choice s p)).1
-
-  -- rows with the same values at the states
-  valued_same : (n : ℕ) (f g : ℕ → V) (r : Row) → Within n r → ((t : ℕ) → t < n → f t ≡ g t) → valued f r ≡ valued g r
-  valued_same n f g [] w e = refl
-  valued_same n f g (b ∷ bs) w e = rw (e b.target w.0, valued_same n f g bs w.1 e)
 
   -- its value is what the rounds give
   pub optimal_value : (k : ℕ) (m : Mdp) → Lawful m → (v : ℕ → V) (j : ℕ) (h : List ℕ) (s : ℕ) → j + length h ≡ k → s < m.states →

@@ -1,6 +1,7 @@
 -- The rules keep the laws.
-use Rattle.std.proofs.Common.{◌≡◌, ℕ, zero, suc, ◌+◌, ◌-◌, ◌/◌, ◌≤◌, Bool, true, false, ◌||◌, leb, ◌⊎◌, List, [], ◌∷◌, ◌++◌, sym, refl, ◌∙◌, inl, inr, le_trans, le_refl, le_antisymm, mul-le-mul_left, le-div_iff_mul-le, div-mul-le_self, arith, le-leb, leb-false, leb-true}
+use Rattle.std.proofs.Common.{◌≡◌, ℕ, zero, suc, ◌+◌, ◌-◌, ◌/◌, ◌≤◌, Bool, true, false, ◌||◌, leb, ◌⊎◌, List, [], ◌∷◌, ◌++◌, sym, refl, ◌∙◌, inl, inr, le_trans, le_refl, le_antisymm, mul-le-mul_left, le-div_iff_mul-le, div-mul-le_self, arith, le-leb, leb-true}
 use native.Mathlib.Nat.{div-zero}
+use Rattle.std.proofs.lemmas.Bool.{cases_lt}
 use Rattle.theory.specs.Rules.{RuleLaws}
 use Rattle.theory.specs.Mixes.{RulesLawful, sum_of, mix_down, mix_up, mix_marks, greater, lesser, yes_first, no_first}
 
@@ -16,11 +17,7 @@ div_mono (suc d) a b h = (le-div_iff_mul-le {k = suc d} (omega arith)).1 (le_tra
 
 -- of two numbers one is at most the other
 leb_total : (x y : ℕ) → (leb x y ≡ true) ⊎ (leb y x ≡ true)
-leb_total x y = go (leb x y) refl
-  where
-    go : (b : Bool) → leb x y ≡ b → (leb x y ≡ true) ⊎ (leb y x ≡ true)
-    go true e = inl e
-    go false e = inr (le-leb y x (omega (arith, leb-false x y e)))
+leb_total x y = elim (cases_lt x y) [ inl h ↦ inl (le-leb x y (omega arith)) | inr h ↦ inr (le-leb y x h) ]
 
 module _ (mix : ℕ → List (ℕ × ℕ) → ℕ)
     (mono : (d : ℕ) (before after : List (ℕ × ℕ)) (w x y : ℕ) → y ≤ x → mix d (before ++ ((w, y) ∷ after)) ≤ mix d (before ++ ((w, x) ∷ after))) where

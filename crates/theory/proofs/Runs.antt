@@ -1,11 +1,11 @@
 -- Runs are the paths that follow the adversary, each exactly once.
 use Rattle.std.proofs.Common.{◌≡◌, ℕ, zero, suc, ◌+◌, ◌*◌, ◌<◌, ◌≤◌, Bool, false, eqb, List, [], ◌∷◌, ◌++◌, map, length, sym, refl, ap, ◌∙◌, subst, ap₂, inl, inr, not-suc-le-zero, arith, eq-eqb, ne_eqb, eqb-true}
+use Rattle.std.proofs.lemmas.Bool.{cases_Bool}
 use mathlib.Core.Path.{fun_ext}
 use Rattle.model.specs.Mdp.{Mdp, Row, Each, Lawful, Ascends}
 use Rattle.model.specs.declared.branch.Branch.{Branch}
 use Rattle.theory.specs.Adversaries.{Adversary, Allowed, chosen}
 use Rattle.theory.specs.Tallies.{Run, step, gather, runs, weight_to, Follows, same_path, count, IsPath, RunsCorrect}
-use Rattle.theory.proofs.Lists.{which}
 use Rattle.theory.proofs.Rounds.{Within, ascends_within, row_lawful, each_append}
 use Rattle.theory.proofs.Tallies.{weigh_all}
 
@@ -61,7 +61,7 @@ none_before n low t f (b ∷ bs) a h z =
 -- and one branch to a target
 one_branch : (n low t : ℕ) (f : ℕ → ℕ) (r : Row) → Ascends n low r → 1 ≤ weight_to r t → f t ≡ 1 → ((u : ℕ) → eqb u t ≡ false → f u ≡ 0) → over_targets f r ≡ 1
 one_branch n low t f [] a h e z = absurd (not-suc-le-zero h)
-one_branch n low t f (b ∷ bs) a h e z = elim (which (eqb b.target t)) [
+one_branch n low t f (b ∷ bs) a h e z = elim (cases_Bool (eqb b.target t)) [
   | inl q ↦
       let x = eqb-true b.target t q in
       let i = none_before n (b.target + 1) t f bs a.3 (omega arith) z in
@@ -75,7 +75,7 @@ one_branch n low t f (b ∷ bs) a h e z = elim (which (eqb b.target t)) [
 -- a target lies below n
 target_within : (n : ℕ) (r : Row) (t : ℕ) → Within n r → 1 ≤ weight_to r t → t < n
 target_within n [] t w h = absurd (not-suc-le-zero h)
-target_within n (b ∷ bs) t w h = elim (which (eqb b.target t)) [
+target_within n (b ∷ bs) t w h = elim (cases_Bool (eqb b.target t)) [
   | inl q ↦ rw (eqb-true b.target t q) at w.0
   | inr q ↦ target_within n bs t w.1 (rw q at h)
 ]

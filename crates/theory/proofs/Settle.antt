@@ -1,5 +1,6 @@
 -- Marks that only grow settle within as many rounds as there are states.
-use Rattle.std.proofs.Common.{◌≡◌, ℕ, zero, suc, ◌+◌, ◌-◌, ◌<◌, ◌≤◌, Bool, true, false, cond, not, ◌⊎◌, sym, refl, ◌∙◌, inl, inr, le_refl, le_of_suc-le-suc, not-suc-le-zero, suc-add, eq-or-lt_of_le, zero-add, sub-add_cancel, arith}
+use Rattle.std.proofs.Common.{◌≡◌, ℕ, zero, suc, ◌+◌, ◌-◌, ◌<◌, ◌≤◌, Bool, true, false, cond, ◌⊎◌, sym, refl, ◌∙◌, inl, inr, le_refl, le_of_suc-le-suc, not-suc-le-zero, suc-add, eq-or-lt_of_le, zero-add, sub-add_cancel, arith}
+use Rattle.std.proofs.lemmas.Bool.{cases_Bool, both_ways, not-true}
 use mathlib.Core.Bool.{or-false}
 use Rattle.model.specs.Mdp.{Mdp, Lawful}
 use Rattle.theory.specs.Rules.{RuleLaws}
@@ -7,7 +8,6 @@ use Rattle.theory.specs.Rounds.{rounds}
 use Rattle.theory.specs.Mixes.{mix_marks, no_first, yes_first}
 use Rattle.theory.specs.Ends.{held, stops}
 use Rattle.theory.specs.WithoutSteps.{all_marks, some_marks, unmarked, Settled}
-use Rattle.theory.proofs.Lists.{true_not_false, which}
 use Rattle.theory.proofs.Rounds.{rising, falling, round_same}
 use Rattle.theory.proofs.RuleLaws.{marks_greater, marks_lesser}
 use Rattle.theory.proofs.Holding.{rounds_stay}
@@ -23,7 +23,7 @@ marked_count (suc n) f = cond (f n) 1 0 + marked_count n f
 marked_count_most : (n : ℕ) (f : ℕ → Bool) → marked_count n f ≤ n
 unfolding marked_count
 marked_count_most zero f = le_refl 0
-marked_count_most (suc n) f = elim (which (f n)) [ inl e ↦ rw e (omega (arith, marked_count_most n f)) | inr e ↦ rw e (omega (arith, marked_count_most n f)) ]
+marked_count_most (suc n) f = elim (cases_Bool (f n)) [ inl e ↦ rw e (omega (arith, marked_count_most n f)) | inr e ↦ rw e (omega (arith, marked_count_most n f)) ]
 
 -- the last or one before
 last_or : (n s : ℕ) → s < suc n → (s ≡ n) ⊎ (s < n)
@@ -34,7 +34,7 @@ same_or_more : (n : ℕ) (f g : ℕ → Bool) → ((s : ℕ) → s < n → f s �
     ((marked_count n f ≤ marked_count n g) × ((s : ℕ) → s < n → g s ≡ f s)) ⊎ (marked_count n f < marked_count n g)
 unfolding marked_count
 same_or_more zero f g h = inl (le_refl 0, λ s p. absurd (not-suc-le-zero p))
-same_or_more (suc n) f g h = go (which (f n)) (which (g n)) (same_or_more n f g (λ s p. h s (omega arith)))
+same_or_more (suc n) f g h = go (cases_Bool (f n)) (cases_Bool (g n)) (same_or_more n f g (λ s p. h s (omega arith)))
   where
     all : g n ≡ f n → ((s : ℕ) → s < n → g s ≡ f s) → (s : ℕ) → s < suc n → g s ≡ f s
     all e k s p = elim (last_or n s p) [ inl q ↦ rw q e | inr q ↦ k s q ]
@@ -43,7 +43,7 @@ same_or_more (suc n) f g h = go (which (f n)) (which (g n)) (same_or_more n f g 
         ((cond (f n) 1 0 + marked_count n f ≤ cond (g n) 1 0 + marked_count n g) × ((s : ℕ) → s < suc n → g s ≡ f s)) ⊎ (cond (f n) 1 0 + marked_count n f < cond (g n) 1 0 + marked_count n g)
     go (inl x) (inl y) (inl (i)) = inl (rw (x, y) (omega (arith, i.0)), all (y ∙ sym x) i.1)
     go (inl x) (inl y) (inr i) = inr (rw (x, y) (omega arith))
-    go (inl x) (inr y) i = true_not_false (g n) (h n (le_refl (suc n)) x) y
+    go (inl x) (inr y) i = absurd (both_ways (g n) y (h n (le_refl (suc n)) x))
     go (inr x) (inl y) (inl i) = inr (rw (x, y) (omega (arith, i.0)))
     go (inr x) (inl y) (inr i) = inr (rw (x, y) (omega arith))
     go (inr x) (inr y) (inl i) = inl (rw (x, y) (omega (arith, i.0)), all (y ∙ sym x) i.1)
@@ -65,7 +65,7 @@ module _ (m : Mdp) (marks : ℕ → ℕ → Bool) (grow : (k s : ℕ) → s < m.
 -- no preferred: what is marked stays marked
 pub no_first_grows : (x y : Bool) → no_first x y ≡ true → x ≡ true → y ≡ true
 no_first_grows true y e f = e
-no_first_grows false y e f = true_not_false false f refl
+no_first_grows false y e f = absurd (both_ways false refl f)
 
 -- and the other way round
 pub from_no_first : (x y : Bool) → (x ≡ true → y ≡ true) → no_first x y ≡ true
@@ -85,21 +85,19 @@ module _ (left right : ℕ → Bool) (m : Mdp) (l : Lawful m) where
       (falling no_first mix_marks marks_lesser (held left right m) (held_lawful left right m l) right
       (λ t q. from_no_first _ _ (λ r. rounds_stay no_first mix_marks (stops left right) m or-false right 1 t q (rw r) ∙ r)) k s p))
 
-  -- those with yes preferred
+  -- with yes preferred, marks settle that begin with marks that the first round keeps
+  some_settle : (from : ℕ → Bool) → ((t : ℕ) → t < m.states → from t ≡ true → some_marks left right m from 1 t ≡ true) →
+      (j : ℕ) × (j ≤ m.states) × Settled m (some_marks left right m from) j
+  some_settle from kept = settle m (some_marks left right m from) (λ k s p. yes_first_yes _ _
+      (rising yes_first mix_marks marks_greater (held left right m) (held_lawful left right m l) from (λ t q. from_yes_first _ _ (kept t q)) k s p))
+
+  -- those that begin with right
   pub some_settles : (j : ℕ) × (j ≤ m.states) × Settled m (some_marks left right m right) j
-  some_settles = settle m (some_marks left right m right) (λ k s p. yes_first_yes _ _
-      (rising yes_first mix_marks marks_greater (held left right m) (held_lawful left right m l) right
-      (λ t q. from_yes_first _ _ (λ r. rounds_stay yes_first mix_marks (stops left right) m or-false right 1 t q (rw r) ∙ r)) k s p))
+  some_settles = some_settle right (λ t q r. rounds_stay yes_first mix_marks (stops left right) m or-false right 1 t q (rw r) ∙ r)
 
   -- those that begin with what is unmarked
   pub unmarked_settles : (k : ℕ) → Settled m (all_marks left right m right) k → (j : ℕ) × (j ≤ m.states) × Settled m (some_marks left right m (unmarked left right m k)) j
-  unmarked_settles k settled = settle m (some_marks left right m (unmarked left right m k)) (λ i s p. yes_first_yes _ _
-      (rising yes_first mix_marks marks_greater (held left right m) (held_lawful left right m l) (unmarked left right m k)
-      (λ t q. from_yes_first _ _ (λ r. unmarked_stays left right m l k settled 1 t q (not_true_false _ r))) i s p))
-    where
-      not_true_false : (b : Bool) → not b ≡ true → b ≡ false
-      not_true_false true e = sym e
-      not_true_false false e = refl
+  unmarked_settles k settled = some_settle (unmarked left right m k) (λ t q r. unmarked_stays left right m l k settled 1 t q (not-true _ r))
 
 -- once settled, always settled
 module _ (at_least_as_good : Bool → Bool → Bool) (laws : RuleLaws at_least_as_good mix_marks) (m : Mdp) (l : Lawful m) (v : ℕ → Bool) where

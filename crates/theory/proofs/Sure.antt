@@ -1,5 +1,6 @@
 -- Untils without steps: where every adversary is sure.
 use Rattle.std.proofs.Common.{◌≡◌, ℕ, zero, suc, ◌+◌, ◌-◌, ◌*◌, ◌^◌, ◌<◌, ◌≤◌, Bool, true, false, cond, not, ◌↔◌, List, [], ◌∷◌, length, sym, refl, ap, ◌∙◌, inl, inr, suc-le-suc, zero-le, le_trans, add-zero, mul-le-mul_right, suc-mul, add_comm, suc-add, mul-le-mul_left, zero-add, zero-mul, le-mul_of_pos_right, arith}
+use Rattle.std.proofs.lemmas.Bool.{cases_Bool, both_ways, or_parts}
 use mathlib.Core.Path.{fun_ext}
 use mathlib.Core.Bool.{or-false, and-false}
 use native.Mathlib.Nat.{pow-succ', pow-zero, one-le-pow}
@@ -11,12 +12,11 @@ use Rattle.theory.specs.Rounds.{mixed}
 use Rattle.theory.specs.Mixes.{mix_marks, no_first, yes_first}
 use Rattle.theory.specs.Ends.{held, stops}
 use Rattle.theory.specs.WithoutSteps.{Certain, all_marks, some_marks, unmarked, Settled}
-use Rattle.theory.proofs.Lists.{true_not_false, which}
 use Rattle.theory.proofs.Rounds.{Within, row_lawful, row_within, round_best, choose, optimal, optimal_allowed, optimal_row}
 use Rattle.theory.proofs.RuleLaws.{marks_greater, marks_lesser}
 use Rattle.theory.proofs.Tallies.{spread, spread_mul, weigh_suc, runs_of, weigh_all, weigh_none}
 use Rattle.theory.proofs.Holding.{unheld_allowed, unheld_row, rounds_stay, reached, lost, under_way, kind}
-use Rattle.theory.proofs.WithoutSteps.{or_no, spread_some, spread_where, positive_after, closed, unmarked_none, held_lawful}
+use Rattle.theory.proofs.WithoutSteps.{spread_some, spread_where, positive_after, closed, unmarked_none, held_lawful}
 use Rattle.theory.proofs.Powers.{pow_times, enough}
 
 -- yes preferred: what is marked stays marked
@@ -28,12 +28,7 @@ yes_first_yes false false e f = f
 -- the runs with a property and those without it weigh what all do
 pub weigh_split : (p : List ℕ → Bool) (rs : List Run) → weigh p rs + weigh (λ ss. not (p ss)) rs ≡ weigh (λ ss. true) rs
 weigh_split p [] = refl
-weigh_split p (r ∷ rs) = go (p r.states) (weigh_split p rs)
-  where
-    go : (b : Bool) → weigh p rs + weigh (λ ss. not (p ss)) rs ≡ weigh (λ ss. true) rs →
-        (cond b r.weight 0 + weigh p rs) + (cond (not b) r.weight 0 + weigh (λ ss. not (p ss)) rs) ≡ r.weight + weigh (λ ss. true) rs
-    go true i = omega arith
-    go false i = omega arith
+weigh_split p (r ∷ rs) = let i = weigh_split p rs in elim (cases_Bool (p r.states)) [ inl e ↦ rw e (omega arith) | inr e ↦ rw e (omega arith) ]
 
 -- one more and one less
 suc_one : (b : ℕ) → suc b - 1 ≡ b
@@ -79,7 +74,7 @@ module _ (left right : ℕ → Bool) (m : Mdp) (l : Lawful m) (k : ℕ) (settled
   all_some : (n d : ℕ) (f v : ℕ → Bool) (r : Row) → 1 ≤ total r → Within n r → mix_marks d (valued f r) ≡ false →
       ((t : ℕ) → t < n → f t ≡ false → v t ≡ true) → mix_marks d (valued v r) ≡ true
   all_some n d f v [] h w e g = absurd (omega arith)
-  all_some n d f v (b ∷ bs) h w e g = rw (g b.target w.0 (or_no (f b.target) (mix_marks d (valued f bs)) e).0)
+  all_some n d f v (b ∷ bs) h w e g = rw (g b.target w.0 (or_parts (f b.target) (mix_marks d (valued f bs)) e).0)
 
   -- what is bad stays marked
   pub unmarked_stays : (i s : ℕ) → s < m.states → all_marks left right m right k s ≡ false → some_marks left right m (unmarked left right m k) i s ≡ true
@@ -97,13 +92,13 @@ module _ (left right : ℕ → Bool) (m : Mdp) (l : Lawful m) (k : ℕ) (settled
   module _ (j : ℕ) (settled2 : Settled m (some_marks left right m (unmarked left right m k)) j) where
     -- from where nothing bad can be reached
     safe_marked : (s : ℕ) → s < m.states → some_marks left right m (unmarked left right m k) j s ≡ false → all_marks left right m right k s ≡ true
-    safe_marked s p e = elim (which (all_marks left right m right k s)) [ inl f ↦ f | inr f ↦ true_not_false (some_marks left right m (unmarked left right m k) j s) (unmarked_stays j s p f) e ]
+    safe_marked s p e = elim (cases_Bool (all_marks left right m right k s)) [ inl f ↦ f | inr f ↦ absurd (both_ways (some_marks left right m (unmarked left right m k) j s) e (unmarked_stays j s p f)) ]
 
     module _ (σ : Adversary) (a : Allowed m σ) where
       safe_on : {P : Type 0} (s : ℕ) → s < m.states → some_marks left right m (unmarked left right m k) j s ≡ false → (right s ≡ true → P) → (right s ≡ false → left s ≡ true → P) → P
       safe_on s p e f g = elim (kind left right s) [
         | reached r ↦ f r
-        | lost r x ↦ true_not_false (right s) (sym (rounds_stay no_first mix_marks (stops left right) m or-false right k s p (rw (r, x))) ∙ safe_marked s p e) r
+        | lost r x ↦ absurd (both_ways (right s) r (sym (rounds_stay no_first mix_marks (stops left right) m or-false right k s p (rw (r, x))) ∙ safe_marked s p e))
         | under_way r x ↦ g r x
       ]
 
@@ -158,7 +153,7 @@ module _ (left right : ℕ → Bool) (m : Mdp) (l : Lawful m) (k : ℕ) (settled
     -- it is allowed in the held model
     avoider_allowed : Allowed (held left right m) avoider
     unfolding avoider
-    avoider_allowed h s p = elim (which (all_marks left right m right k s)) [
+    avoider_allowed h s p = elim (cases_Bool (all_marks left right m right k s)) [
       | inl e ↦ rw e (optimal_allowed yes_first mix_marks marks_greater j (held left right m) (held_lawful left right m l) (unmarked left right m k) h s p)
       | inr e ↦ rw e ((choose no_first mix_marks marks_lesser (held left right m) (all_marks left right m right k) s).1 ((held_lawful left right m l).some_choice s p)).0
     ]
@@ -196,22 +191,22 @@ module _ (left right : ℕ → Bool) (m : Mdp) (l : Lawful m) (k : ℕ) (settled
     -- on the way there at least one part in D ^ i misses for ever
     avoider_misses : (i : ℕ) (h : List ℕ) (s : ℕ) → i + length h ≡ j → s < m.states → some_marks left right m (unmarked left right m k) i s ≡ true →
         (n : ℕ) → m.denominator ^ n ≤ miss left right n m avoider h s * m.denominator ^ i
-    avoider_misses zero h s x p e n = elim (which (all_marks left right m right k s)) [
-      | inl f ↦ true_not_false (unmarked left right m k s) e (ap not f)
+    avoider_misses zero h s x p e n = elim (cases_Bool (all_marks left right m right k s)) [
+      | inl f ↦ absurd (both_ways (unmarked left right m k s) (ap not f) e)
       | inr f ↦ unmarked_missed zero h s p f n
     ]
-    avoider_misses (suc i) h s x p e zero = elim (which (all_marks left right m right k s)) [
+    avoider_misses (suc i) h s x p e zero = elim (cases_Bool (all_marks left right m right k s)) [
       | inl f ↦ elim (kind left right s) [
-        | reached r ↦ true_not_false (some_marks left right m (unmarked left right m k) (suc i) s) e (held_still (suc i) s p (rw r) f)
+        | reached r ↦ absurd (both_ways (some_marks left right m (unmarked left right m k) (suc i) s) (held_still (suc i) s p (rw r) f) e)
         | lost r g ↦ rw (miss_none left right m l avoider avoider_unheld h s r) (omega (arith, pow-zero m.denominator, one-le-pow (suc i) m.denominator l.some_unit))
         | under_way r g ↦ rw (miss_none left right m l avoider avoider_unheld h s r) (omega (arith, pow-zero m.denominator, one-le-pow (suc i) m.denominator l.some_unit))
       ]
       | inr f ↦ unmarked_missed (suc i) h s p f zero
     ]
-    avoider_misses (suc i) h s x p e (suc n) = elim (which (all_marks left right m right k s)) [
+    avoider_misses (suc i) h s x p e (suc n) = elim (cases_Bool (all_marks left right m right k s)) [
       | inl f ↦ elim (kind left right s) [
-        | reached r ↦ true_not_false (some_marks left right m (unmarked left right m k) (suc i) s) e (held_still (suc i) s p (rw r) f)
-        | lost r g ↦ true_not_false (some_marks left right m (unmarked left right m k) (suc i) s) e (held_still (suc i) s p (rw (r, g)) f)
+        | reached r ↦ absurd (both_ways (some_marks left right m (unmarked left right m k) (suc i) s) (held_still (suc i) s p (rw r) f) e)
+        | lost r g ↦ absurd (both_ways (some_marks left right m (unmarked left right m k) (suc i) s) (held_still (suc i) s p (rw (r, g)) f) e)
         | under_way r g ↦
             let d = m.denominator in
             let v = some_marks left right m (unmarked left right m k) i in
@@ -239,7 +234,7 @@ module _ (left right : ℕ → Bool) (m : Mdp) (l : Lawful m) (k : ℕ) (settled
     certain_iff s p = (λ e σ a. sure σ a s p e, back)
       where
         back : Certain left right m s → some_marks left right m (unmarked left right m k) j s ≡ false
-        back f = elim (which (some_marks left right m (unmarked left right m k) j s)) [
+        back f = elim (cases_Bool (some_marks left right m (unmarked left right m k) j s)) [
           | inl e ↦ absurd (unsure s p e (f avoider avoider_unheld))
           | inr e ↦ e
         ]

@@ -1,17 +1,19 @@
 -- The recursion of the tally, from the paths.
-use Rattle.std.proofs.Common.{◌≡◌, ℕ, zero, suc, ◌+◌, ◌*◌, ◌^◌, ◌<◌, ◌≤◌, Bool, true, false, cond, List, [], ◌∷◌, ◌++◌, map, sym, refl, ap, ◌∙◌, ap₂, mul-le-mul_left, mul-zero, arith}
+use Rattle.std.proofs.Common.{◌≡◌, ℕ, zero, suc, ◌+◌, ◌*◌, ◌^◌, ◌<◌, ◌≤◌, Bool, true, false, List, [], ◌∷◌, ◌++◌, map, sym, refl, ap, ◌∙◌, ap₂, mul-le-mul_left, mul-zero, arith, inl, inr}
+use Rattle.std.proofs.lemmas.Bool.{cases_Bool}
 use mathlib.Core.Path.{fun_ext}
 use mathlib.Core.Bool.{and-false}
 use native.Mathlib.Nat.{pow-zero, pow-succ'}
 use Rattle.model.specs.Mdp.{Mdp, Row, Lawful, total}
 use Rattle.theory.specs.Adversaries.{Adversary, Allowed, chosen}
 use Rattle.theory.specs.Tallies.{Run, step, gather, runs, meets, weigh, tally_after}
-use Rattle.theory.proofs.Rounds.{Within, row_lawful, row_within}
+use Rattle.theory.specs.Rules.{valued}
+use Rattle.theory.specs.Mixes.{sum_of}
+use Rattle.theory.proofs.Rounds.{Within, row_lawful, row_within, valued_same}
 
 -- the sum of weight × f target over a row
 abbrev pub spread : (ℕ → ℕ) → Row → ℕ
-spread f [] = 0
-spread f (b ∷ bs) = b.weight * f b.target + spread f bs
+spread f r = sum_of (valued f r)
 
 -- weights of two lists add up
 pub weigh-++ : (p : List ℕ → Bool) (xs ys : List Run) → weigh p (xs ++ ys) ≡ weigh p xs + weigh p ys
@@ -21,11 +23,7 @@ weigh-++ p (x ∷ xs) ys = rw (weigh-++ p xs ys) (omega arith)
 -- a step in front multiplies
 pub weigh_step : (p : List ℕ → Bool) (s w : ℕ) (rs : List Run) → weigh p (map (step s w) rs) ≡ w * weigh (λ ss. p (s ∷ ss)) rs
 weigh_step p s w [] = sym (mul-zero w)
-weigh_step p s w (r ∷ rs) = rw (weigh_step p s w rs) (go (p (s ∷ r.states)))
-  where
-    go : (b : Bool) → cond b (w * r.weight) 0 + w * weigh (λ ss. p (s ∷ ss)) rs ≡ w * (cond b r.weight 0 + weigh (λ ss. p (s ∷ ss)) rs)
-    go true = omega arith
-    go false = omega arith
+weigh_step p s w (r ∷ rs) = rw (weigh_step p s w rs) (elim (cases_Bool (p (s ∷ r.states))) [ inl e ↦ rw e (omega arith) | inr e ↦ rw e (omega arith) ])
 
 -- the weight of the runs over a row is the sum of those one step later
 pub weigh_row : (p : List ℕ → Bool) (s : ℕ) (f : ℕ → List Run) (row : Row) →
@@ -39,11 +37,6 @@ pub weigh_suc : (p : List ℕ → Bool) (k : ℕ) (m : Mdp) (σ : Adversary) (h 
     weigh p (runs (suc k) m σ h s) ≡ spread (λ t. weigh (λ ss. p (s ∷ ss)) (runs k m σ (s ∷ h) t)) (chosen m σ h s)
 weigh_suc p k m σ h s = weigh_row p s (runs k m σ (s ∷ h)) (chosen m σ h s)
 
--- the same at the targets
-pub spread_same : (n : ℕ) (f g : ℕ → ℕ) (r : Row) → Within n r → ((t : ℕ) → t < n → f t ≡ g t) → spread f r ≡ spread g r
-spread_same n f g [] w e = refl
-spread_same n f g (b ∷ bs) w e = rw (e b.target w.0, spread_same n f g bs w.1 e)
-
 -- a constant over a row
 pub spread_const : (c : ℕ) (r : Row) → spread (λ t. c) r ≡ total r * c
 spread_const c [] = omega arith
@@ -54,7 +47,7 @@ pub weigh_all : (m : Mdp) → Lawful m → (σ : Adversary) → Allowed m σ →
     weigh (λ ss. true) (runs k m σ h s) ≡ m.denominator ^ k
 weigh_all m l σ a zero h s p = sym (pow-zero m.denominator)
 weigh_all m l σ a (suc k) h s p = weigh_suc (λ ss. true) k m σ h s
-    ∙ spread_same m.states _ (λ t. m.denominator ^ k) (chosen m σ h s) (row_within m l s (σ (s ∷ h)) (a h s p)) (λ t q. weigh_all m l σ a k (s ∷ h) t q)
+    ∙ ap sum_of (valued_same m.states _ (λ t. m.denominator ^ k) (chosen m σ h s) (row_within m l s (σ (s ∷ h)) (a h s p)) (λ t q. weigh_all m l σ a k (s ∷ h) t q))
     ∙ spread_const (m.denominator ^ k) (chosen m σ h s)
     ∙ rw ((row_lawful m l s (σ (s ∷ h)) (a h s p)).sums, pow-succ' m.denominator k)
 

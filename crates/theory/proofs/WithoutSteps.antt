@@ -1,32 +1,27 @@
 -- Untils without steps: what the settled marks say of the tallies.
-use Rattle.std.proofs.Common.{◌≡◌, ℕ, zero, suc, ◌+◌, ◌<◌, ◌≤◌, Bool, true, false, ◌||◌, ◌↔◌, List, [], ◌∷◌, sym, refl, ◌∙◌, inl, inr, le_of_eq, le_refl, not-suc-le-zero, mul-le-mul_right, mul-le-mul_left, arith}
+use Rattle.std.proofs.Common.{◌≡◌, ℕ, zero, suc, ◌+◌, ◌<◌, ◌≤◌, Bool, true, false, ◌↔◌, List, [], ◌∷◌, sym, refl, ◌∙◌, inl, inr, le_of_eq, le_refl, not-suc-le-zero, mul-le-mul_right, mul-le-mul_left, arith}
+use Rattle.std.proofs.lemmas.Bool.{cases_Bool, both_ways, or_parts, false_from_ne_true}
 use mathlib.Core.Bool.{or-false}
 use native.Mathlib.Nat.{one-le-pow}
 use Rattle.model.specs.Mdp.{Mdp, Row, Lawful, Ascends}
 use Rattle.theory.specs.Adversaries.{Adversary, Allowed, chosen}
 use Rattle.theory.specs.Tallies.{tally_after}
 use Rattle.theory.specs.Rules.{valued}
-use Rattle.theory.specs.Rounds.{mixed, value}
+use Rattle.theory.specs.Rounds.{mixed, value, rounds}
 use Rattle.theory.specs.Mixes.{mix_marks, no_first, yes_first}
 use Rattle.theory.specs.Ends.{held, stops}
 use Rattle.theory.specs.WithoutSteps.{Positive, Never, all_marks, some_marks, Settled}
-use Rattle.theory.proofs.Lists.{true_not_false, which}
 use Rattle.theory.proofs.Rounds.{Within, row_lawful, row_within, none_better, some_adversary, round_best, choose}
 use Rattle.theory.proofs.RuleLaws.{marks_greater, marks_lesser}
 use Rattle.theory.proofs.Tallies.{spread, spread_const, tally_right, tally_out, tally_none, tally_on}
 use Rattle.model.specs.HoldLaws.{hold_lawful}
 use Rattle.theory.proofs.Holding.{unheld_allowed, lifted, lifted_allowed, lifted_row, unheld_row, stay, rounds_stay, reached, lost, under_way, kind}
 
--- neither is true
-pub or_no : (x y : Bool) → (x || y) ≡ false → (x ≡ false) × (y ≡ false)
-or_no true y e = true_not_false true refl e
-or_no false y e = (refl, e)
-
 -- some branch goes where v is yes
 pub spread_some : (n low d c : ℕ) (v : ℕ → Bool) (f : ℕ → ℕ) (r : Row) → Ascends n low r → mix_marks d (valued v r) ≡ true →
     ((t : ℕ) → t < n → v t ≡ true → c ≤ f t) → c ≤ spread f r
-spread_some n low d c v f [] a e h = true_not_false false e refl
-spread_some n low d c v f (b ∷ bs) a e h = elim (which (v b.target)) [
+spread_some n low d c v f [] a e h = absurd (both_ways false refl e)
+spread_some n low d c v f (b ∷ bs) a e h = elim (cases_Bool (v b.target)) [
   | inl p ↦ let q = h b.target a.1 p in let w = mul-le-mul_right (f b.target) a.2 in omega arith
   | inr p ↦ let i = spread_some n (b.target + 1) d c v f bs a.3 (rw p at e) h in omega arith
 ]
@@ -36,7 +31,7 @@ pub spread_where : (n d : ℕ) (v : ℕ → Bool) (f g : ℕ → ℕ) (r : Row) 
     ((t : ℕ) → t < n → v t ≡ false → f t ≤ g t) → spread f r ≤ spread g r
 spread_where n d v f g [] w e h = le_refl 0
 spread_where n d v f g (b ∷ bs) w e h =
-    let o = or_no (v b.target) (mix_marks d (valued v bs)) e in
+    let o = or_parts (v b.target) (mix_marks d (valued v bs)) e in
     let q = mul-le-mul_left b.weight (h b.target w.0 o.0) in
     let i = spread_where n d v f g bs w.1 o.1 h in
     omega arith
@@ -60,7 +55,7 @@ module _ (left right : ℕ → Bool) (m : Mdp) (l : Lawful m) (σ τ : Adversary
   value_yes zero h s p e = rw (tally_right left right m l σ a 0 h s p e) (one-le-pow 0 m.denominator l.some_unit)
   value_yes (suc k) h s p e = elim (kind left right s) [
     | reached r ↦ rw (tally_right left right m l σ a (suc k) h s p r) (one-le-pow (suc k) m.denominator l.some_unit)
-    | lost r f ↦ true_not_false (right s) (sym (keep (suc k) h s p (rw (r, f))) ∙ e) r
+    | lost r f ↦ absurd (both_ways (right s) r (sym (keep (suc k) h s p (rw (r, f))) ∙ e))
     | under_way r f ↦ rw (tally_on left right m l σ a k h s r f)
         (spread_some m.states 0 m.denominator 1 (value mix_marks k (held left right m) right τ (s ∷ h)) (tally_after left right k m σ (s ∷ h)) (chosen m σ h s)
         (row_lawful m l s (σ (s ∷ h)) (a h s p)).ascends (rw (agree h s (rw (r, f))) at e) (λ t q v. value_yes k (s ∷ h) t q v))
@@ -80,24 +75,15 @@ module _ (left right : ℕ → Bool) (m : Mdp) (l : Lawful m) where
       value_yes left right m l σ τ a b (lifted_row (stops left right) m σ) k h s p
       (rw e at (none_better no_first mix_marks marks_lesser (held left right m) held_lawful right τ b k h s p))
 
-  -- what is not marked is not in right
-  pub unmarked_not_right : (k s : ℕ) → s < m.states → all_marks left right m right k s ≡ false → right s ≡ false
-  unmarked_not_right k s p e = elim (which (right s)) [
-    | inl r ↦ true_not_false (right s) r (sym (rounds_stay no_first mix_marks (stops left right) m or-false right k s p (rw r)) ∙ e)
-    | inr r ↦ r
-  ]
-
-  -- with the greater preferred, what is not marked never has a tally
-  unmarked_not_right' : (k s : ℕ) → s < m.states → some_marks left right m right k s ≡ false → right s ≡ false
-  unmarked_not_right' k s p e = elim (which (right s)) [
-    | inl r ↦ true_not_false (right s) r (sym (rounds_stay yes_first mix_marks (stops left right) m or-false right k s p (rw r)) ∙ e)
-    | inr r ↦ r
-  ]
+  -- what rounds of marks from right leave unmarked is not in right
+  unmarked_not_right : (prefer : Bool → Bool → Bool) (k s : ℕ) → s < m.states → rounds prefer mix_marks k (held left right m) right s ≡ false → right s ≡ false
+  unmarked_not_right prefer k s p e =
+      false_from_ne_true (right s) (λ r. both_ways (right s) (sym (rounds_stay prefer mix_marks (stops left right) m or-false right k s p (rw r)) ∙ e) r)
 
   -- yes preferred: where the best is no, all are
   pub yes_first_no : (x y : Bool) → yes_first x y ≡ true → x ≡ false → y ≡ false
-  yes_first_no true y e f = true_not_false true refl f
-  yes_first_no false true e f = true_not_false false e refl
+  yes_first_no true y e f = absurd (both_ways true f refl)
+  yes_first_no false true e f = absurd (both_ways false refl e)
   yes_first_no false false e f = refl
 
   -- from a settled state that is not marked no choice leads to one that is
@@ -112,9 +98,9 @@ module _ (left right : ℕ → Bool) (m : Mdp) (l : Lawful m) where
   -- so its tally is 0 for every number of steps
   pub never_after : (k : ℕ) → Settled m (some_marks left right m right) k → (σ : Adversary) → Allowed m σ →
       (j : ℕ) (h : List ℕ) (s : ℕ) → s < m.states → some_marks left right m right k s ≡ false → tally_after left right j m σ h s ≡ 0
-  never_after k settled σ a zero h s p e = tally_none left right m l σ a h s (unmarked_not_right' k s p e)
+  never_after k settled σ a zero h s p e = tally_none left right m l σ a h s (unmarked_not_right yes_first k s p e)
   never_after k settled σ a (suc j) h s p e = elim (kind left right s) [
-    | reached r ↦ true_not_false (right s) r (unmarked_not_right' k s p e)
+    | reached r ↦ absurd (both_ways (right s) (unmarked_not_right yes_first k s p e) r)
     | lost r f ↦ tally_out left right m l σ a (suc j) h s r f
     | under_way r f ↦ tally_on left right m l σ a j h s r f
         ∙ spread_zero m.states m.denominator (some_marks left right m right k) (tally_after left right j m σ (s ∷ h)) (chosen m σ h s)
@@ -127,7 +113,7 @@ module _ (left right : ℕ → Bool) (m : Mdp) (l : Lawful m) where
   never_iff k settled s p = (λ e σ a j. never_after k settled σ a j [] s p e, back)
     where
       back : Never left right m s → some_marks left right m right k s ≡ false
-      back f = elim (which (some_marks left right m right k s)) [
+      back f = elim (cases_Bool (some_marks left right m right k s)) [
         | inl e ↦
             let c = some_adversary yes_first mix_marks marks_greater (held left right m) held_lawful right k s p in
             let a = unheld_allowed (stops left right) m l c.0 c.1 in
@@ -142,9 +128,9 @@ module _ (left right : ℕ → Bool) (m : Mdp) (l : Lawful m) where
         ((h : List ℕ) (s : ℕ) → s < m.states → all_marks left right m right k s ≡ false →
         mixed mix_marks (held left right m) (all_marks left right m right k) (chosen (held left right m) σ h s) ≡ false) →
         (j : ℕ) (h : List ℕ) (s : ℕ) → s < m.states → all_marks left right m right k s ≡ false → tally_after left right j m σ h s ≡ 0
-    unmarked_none σ a go zero h s p e = tally_none left right m l σ a h s (unmarked_not_right k s p e)
+    unmarked_none σ a go zero h s p e = tally_none left right m l σ a h s (unmarked_not_right no_first k s p e)
     unmarked_none σ a go (suc j) h s p e = elim (kind left right s) [
-      | reached r ↦ true_not_false (right s) r (unmarked_not_right k s p e)
+      | reached r ↦ absurd (both_ways (right s) (unmarked_not_right no_first k s p e) r)
       | lost r f ↦ tally_out left right m l σ a (suc j) h s r f
       | under_way r f ↦ tally_on left right m l σ a j h s r f
           ∙ spread_zero m.states m.denominator (all_marks left right m right k) (tally_after left right j m σ (s ∷ h)) (chosen m σ h s)
@@ -172,7 +158,7 @@ module _ (left right : ℕ → Bool) (m : Mdp) (l : Lawful m) where
     positive_iff s p = (λ e σ a. (k, positive_after k σ a [] s p e), back)
       where
         back : Positive left right m s → all_marks left right m right k s ≡ true
-        back f = elim (which (all_marks left right m right k s)) [
+        back f = elim (cases_Bool (all_marks left right m right k s)) [
           | inl e ↦ e
           | inr e ↦
               let a = unheld_allowed (stops left right) m l lingerer lingerer_allowed in

@@ -9,99 +9,71 @@ ghost use Rattle.theory.specs.Verdicts.{OneVerdict, VerdictsCorrect};
 ghost use Rattle.theory.specs.Distances.{UntilNear, NextNear, WithoutStepsDecided, QueriesCorrect};
 
 // a lawful model has an allowed adversary
-pub fn an_adversary_exists() -> u8
+pub fn an_adversary_exists()
     ensures { AnAdversaryExists }
-{
-    0
-}
+{}
 
 // the runs are the paths that follow the adversary, each exactly once, and their weights sum to D ^ k
-pub fn runs_are_paths() -> u8
+pub fn runs_are_paths()
     ensures { RunsCorrect }
-{
-    0
-}
+{}
 
 // for every lawful rule, rounds give each state the optimum over all adversaries
-pub fn rounds_are_optimal<V>() -> u8
+pub fn rounds_are_optimal<V>()
     ensures { RoundsOptimal V }
-{
-    0
-}
+{}
 
 // parts rounded down, parts rounded up and marks keep the laws of a rule
-pub fn rules_are_lawful() -> u8
+pub fn rules_are_lawful()
     ensures { RulesLawful }
-{
-    0
-}
+{}
 
 // the two ends of a query bound every adversary, one reaches the near end, and the gap is at most the number of rounds
-pub fn ends_bound_all() -> u8
+pub fn ends_bound_all()
     ensures { EndsBound }
-{
-    0
-}
+{}
 
 // so do the two ends of a next, with a gap of at most one unit
-pub fn next_ends_bound_all() -> u8
+pub fn next_ends_bound_all()
     ensures { NextEndsBound }
-{
-    0
-}
+{}
 
 // marks settle within as many rounds as there are states, and then decide the untils without steps
-pub fn marks_decide_untils() -> u8
+pub fn marks_decide_untils()
     ensures { MarksDecide }
-{
-    0
-}
+{}
 
 // every formula has exactly one set of states
-pub fn formulas_have_one_set() -> u8
+pub fn formulas_have_one_set()
     ensures { OneSet }
-{
-    0
-}
+{}
 
 // every formula has verdicts, and on the states only one
-pub fn formulas_have_one_verdict() -> u8
+pub fn formulas_have_one_verdict()
     ensures { OneVerdict }
-{
-    0
-}
+{}
 
 // every yes and no on a formula is true
-pub fn verdicts_are_correct() -> u8
+pub fn verdicts_are_correct()
     ensures { VerdictsCorrect }
-{
-    0
-}
+{}
 
 // an undecided until with k steps over decided parts lies within k units of its bound
-pub fn undecided_untils_are_near() -> u8
+pub fn undecided_untils_are_near()
     ensures { UntilNear }
-{
-    0
-}
+{}
 
 // an undecided next over a decided part lies within one unit of its bound
-pub fn undecided_nexts_are_near() -> u8
+pub fn undecided_nexts_are_near()
     ensures { NextNear }
-{
-    0
-}
+{}
 
 // an until without steps over decided parts is decided
-pub fn untils_without_steps_are_decided() -> u8
+pub fn untils_without_steps_are_decided()
     ensures { WithoutStepsDecided }
-{
-    0
-}
+{}
 
 // the verdicts of one query are true, and an undecided state lies within k units of the bound
-pub fn queries_are_correct() -> u8
+pub fn queries_are_correct()
     ensures { QueriesCorrect }
-{
-    0
-}
+{}

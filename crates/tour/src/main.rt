@@ -7,28 +7,29 @@ use console::reply::Reply;
 use layers::hold::Hold;
 use model::source::Source;
 use printing::listing::{state_text, totals};
-use printing::words::hold_refusal;
+use printing::totals::Totals;
+use printing::words::refusal_line;
 use std::alloc::{AllocError, Global};
 use std::io::Write;
 use std::{fs, io};
 use tables::tables::Tables;
 
 // Command lines that print a file.
-const FILES: [&str; 3] = [
+const FILES: &[&str] = &[
     "kavzhubo help",
     "kavzhubo show relearn.mdp",
     "kavzhubo write relearn.mdp",
 ];
 
 // Command lines that print a ladder.
-const LADDERS: [&str; 3] = [
+const LADDERS: &[&str] = &[
     "kavzhubo show ladder:2:4:3",
     "kavzhubo write ladder:2:4:3",
     "kavzhubo write ladder:1:1:1",
 ];
 
 // Command lines whose file is refused.
-const REFUSED: [&str; 14] = [
+const REFUSED: &[&str] = &[
     "kavzhubo show unended.mdp",
     "kavzhubo show word.mdp",
     "kavzhubo show long.mdp",
@@ -46,14 +47,14 @@ const REFUSED: [&str; 14] = [
 ];
 
 // Command lines whose ladder is refused.
-const REFUSED_LADDERS: [&str; 3] = [
+const REFUSED_LADDERS: &[&str] = &[
     "kavzhubo show ladder:0:4:3",
     "kavzhubo show ladder:2:0:3",
     "kavzhubo write ladder:2:4:5",
 ];
 
 // Command lines that are wrong.
-const WRONG: [&str; 9] = [
+const WRONG: &[&str] = &[
     "kavzhubo",
     "kavzhubo chart relearn.mdp",
     "kavzhubo show",
@@ -67,22 +68,18 @@ const WRONG: [&str; 9] = [
 
 // The words of a command line, after the program's name.
 fn words(heap: Global, line: &str) -> Result<Vec<String>, AllocError> {
-    let mut words = Vec::new(heap);
-    for word in line.split_whitespace().skip(1) {
-        words.push(String::from_str(heap, word)?)?;
-    }
-    Ok(words)
+    line.split_whitespace()
+        .skip(1)
+        .map(|word| String::from_str(heap, word))
+        .try_collect(heap)
 }
 
 // Plays a command line: prints it, what the program answers to it, and the exit status.
 fn play(rt: &HostRuntime, line: &str) -> io::Result<()> {
     let args = words(rt.alloc(), line)?;
-    let file = match path(args.as_slice()) {
-        Some(path) => fs::read(rt, path).ok(),
-        None => None,
-    };
+    let file = path(args.as_slice()).and_then(|path| fs::read(rt, path).ok());
     println!(rt; "\n$ {line}")?;
-    match reply(rt.alloc(), args.as_slice(), &file)? {
+    match reply(rt.alloc(), args.as_slice(), file.as_deref())? {
         Reply::Printed(text) => {
             rt.stdout().write_all(text.as_slice())?;
             rt.println("(exit status 0)")
@@ -122,7 +119,7 @@ fn print_held<S: Source>(rt: &HostRuntime, source: &S, state: usize) -> io::Resu
             rt.println("After:")?;
             print_state(rt, &layer, state)
         }
-        Err(fault) => rt.println(hold_refusal(rt.alloc(), &fault)?.as_str()),
+        Err(fault) => rt.println(refusal_line(rt.alloc(), &fault)?.as_str()),
     }
 }
 
@@ -133,10 +130,12 @@ fn print_layers(rt: &HostRuntime, name: &str) -> io::Result<()> {
     if tables.load(text.as_slice()).is_err() {
         return println!(rt; "\n{name} is refused.");
     }
-    let size = totals(&tables, text.len());
-    let states = size.states;
-    let choices = size.choices;
-    let branches = size.branches;
+    let Totals {
+        states,
+        choices,
+        branches,
+        ..
+    } = totals(&tables, text.len());
     println!(rt; "\nLoaded {name}: {states} states, {choices} choices, {branches} branches.")?;
     print_held(rt, &tables, 3)?;
     print_held(rt, &tables, states)
@@ -166,11 +165,11 @@ fn print_copy(rt: &HostRuntime, name: &str) -> io::Result<()> {
 
 fn main(rt: HostRuntime) -> io::Result<()> {
     rt.println("A tour of kavzhubo: after each $ stands a command line, and under it the answer.")?;
-    play_all(&rt, "A file.", &FILES)?;
+    play_all(&rt, "A file.", FILES)?;
     print_copy(&rt, "relearn.mdp")?;
     print_layers(&rt, "relearn.mdp")?;
-    play_all(&rt, "Ladders.", &LADDERS)?;
-    play_all(&rt, "Refused files, in the order of the numbers.", &REFUSED)?;
-    play_all(&rt, "Refused ladders.", &REFUSED_LADDERS)?;
-    play_all(&rt, "Wrong command lines, and paths of no file.", &WRONG)
+    play_all(&rt, "Ladders.", LADDERS)?;
+    play_all(&rt, "Refused files, in the order of the numbers.", REFUSED)?;
+    play_all(&rt, "Refused ladders.", REFUSED_LADDERS)?;
+    play_all(&rt, "Wrong command lines, and paths of no file.", WRONG)
 }

@@ -1,7 +1,6 @@
 -- Rows of verdict bytes that are written state by state, and what a row tells.
-use Rattle.std.proofs.Common.{◌≡◌, ℕ, ◌+◌, ◌<◌, ◌≤◌, Bool, true, false, not, eqb, List, length, get_or, set, sym, refl, ap, ◌∙◌, arith}
+use Rattle.std.proofs.Common.{◌≡◌, ℕ, ◌<◌, Bool, true, false, not, eqb, ◌≢◌, List, length, get_or, set, sym, refl, ap, ◌∙◌, arith, get_or-set_other, get_or-set_same}
 use Rattle.std.proofs.lemmas.List.FromFn.{fill_by_all}
-use Rattle.std.proofs.lemmas.List.Edits.{fill_by_more}
 use Rattle.model.specs.Mdp.{Mdp}
 use Rattle.theory.specs.Verdicts.{VerdictSets, SameVerdicts}
 use Rattle.rounds.proofs.Lists.{told_listed, listed_same}
@@ -9,18 +8,17 @@ use Rattle.trial.specs.VerdictBytes.{verdict_number, verdict_by}
 use Rattle.trial.specs.Queries.{marked}
 use Rattle.trial.specs.Rows.{sets, byte_at, bytes}
 
--- the bytes of the states below i are written
-abbrev pub Written : VerdictSets → ℕ → List ℕ → Type 0
-Written v i row = (s : ℕ) → s < i → get_or row s 0 ≡ byte_at v s
+-- a row with the byte of each state's verdict is the row of the verdicts
+pub row_written : (v : VerdictSets) (row : List ℕ) (n : ℕ) → length row ≡ n → ((s : ℕ) → s < n → get_or row s 0 ≡ byte_at v s) → row ≡ bytes n v
+row_written v row n long written = fill_by_all (byte_at v) row n 0 long written
 
-module _ (v : VerdictSets) (row : List ℕ) (i : ℕ) (written : Written v i row) where
-  -- one more is written
-  pub written_more : (b : ℕ) → i < length row → b ≡ byte_at v i → Written v (i + 1) (set row i b)
-  written_more b h e s k = ap (λ (x : ℕ). get_or (set row i x) s 0) e ∙ fill_by_more (byte_at v) row i 0 h written s k
+-- a byte before the one that is written is as it was
+pub byte_kept : (row : List ℕ) (i b s v : ℕ) → s < i → get_or row s 0 ≡ v → get_or (set row i b) s 0 ≡ v
+byte_kept row i b s v h e = let ne : s ≢ i = omega arith in rw get_or-set_other e
 
-  -- all are written
-  pub written_all : (n : ℕ) → length row ≡ n → n ≤ i → row ≡ bytes n v
-  written_all n long h = fill_by_all (byte_at v) row n 0 long (λ s k. written s (omega arith))
+-- and the one that is written is there
+pub byte_set : (row : List ℕ) (i b v : ℕ) → i < length row → b ≡ v → get_or (set row i b) i 0 ≡ v
+byte_set row i b v h e = rw get_or-set_same e
 
 -- the byte of a verdict is 1 where it is sure
 byte_sure : (a b : Bool) → eqb (verdict_number (verdict_by a b)) 1 ≡ a

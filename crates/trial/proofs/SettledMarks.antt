@@ -51,6 +51,11 @@ module _ (p : Preference) (m : Mdp) (l : Lawful m) where
         ∙ after_alike (take n marks) (told marks false) front_told m.states s h
 
 module _ (left right : ℕ → Bool) (m : Mdp) (l : Lawful m) (marks : List Bool) where
+  -- what rounds over the layer that holds the settled states make of marks that tell a set, they make of the set
+  pub held_alike : (p : Preference) (from : ℕ → Bool) → Alike m (told marks false) from → (s : ℕ) → s < m.states → (x : Bool) → x ≡ marks_after p (held left right m) marks m.states s →
+      x ≡ rounds (prefers_mark p) mix_marks m.states (held left right m) from s
+  held_alike p from e s h x f = f ∙ after_alike p (held left right m) (held_lawful left right m l) marks from e m.states s h
+
   -- from what the settled marks with no preferred leave unmarked, no round with yes preferred takes a mark away
   pub unmarked_grows : Alike m (told marks false) (unmarked left right m m.states) → TakesNone Greater (held left right m) marks
   unmarked_grows e s h f =

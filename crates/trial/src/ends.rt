@@ -8,58 +8,41 @@ ghost use Rattle.rules.specs.Values.{told};
 ghost use Rattle.rounds.specs.Refusals.{most_rounds};
 ghost use Rattle.trial.specs.Queries.{marked};
 
+use crate::per_state::PerState;
 use model::source::Source;
 use rounds::run::rounds;
 use rules::part::Part;
 use rules::rule::Rule;
 
 // The part of so many units, of which there are no more than the whole has.
-pub(crate) fn part(units: u32) -> Part
+fn part(units: u32) -> Part
     requires { units ≤ whole }
     ensures { result ≡ part_of units }
 {
-    match Part::new(units) {
-        Ok(part) => part,
-        Err(_) => unreachable(),
-    }
+    Part::try_from(units).unwrap()
 }
 
-// Both ends begin with the whole in right and 0 elsewhere.
-pub(crate) fn fill_start(right: &[u8], ends: &mut [Part])
-    requires { length right.now ≤ length ends.old }
-    ensures { (d : PartValue) (s : ℕ) → s < length right.now → units_of (slice_index_or ends.new s d) ≡ start (marked right.now) s }
+// Both ends begin with the whole at the states with the byte 1 and 0 elsewhere.
+pub(crate) fn start_ends(right: &[u8]) -> PerState<Part>
+    requires { length right.now ≤ 512 }
+    ensures { (d : PartValue) (s : ℕ) → s < length right.now → units_of (slice_index_or result.values s d) ≡ start (marked right.now) s }
 {
-    for state in 0..right.len() {
-        ends[state] = if right[state] == 1 {
-            part(1_000_000_000)
-        } else {
-            part(0)
-        };
-    }
+    let (all, none) = (part(1_000_000_000), part(0));
+    PerState::of(right, none, |byte| if byte == 1 { all } else { none })
 }
 
-// Rounds of the values at the front of a list, one for each state.
-pub(crate) fn advance_front<S: Source, R: Rule>(
+// Rounds of the values of the states.
+pub(crate) fn advance<S: Source, R: Rule>(
     source: &S,
     rule: &R,
-    values: &mut [R::Value],
-    spare: &mut [R::Value],
+    ends: &mut PerState<R::Value>,
+    spare: &mut PerState<R::Value>,
     count: u64,
 )
-    requires values_long { (S.Source.model source.now).states ≤ length values.old }
-    requires spare_long { (S.Source.model source.now).states ≤ length spare.old }
-    requires few { count ≤ most_rounds }
-    ensures { (d : R.Value) (s : ℕ) → s < (S.Source.model source.now).states → slice_index_or values.new s d ≡ rounds_of (R.Rule.preferred rule.now) (R.Rule.mixed rule.now) count (S.Source.model source.now) (told values.old d) s }
+    requires { count ≤ most_rounds }
+    ensures { (d : R.Value) (s : ℕ) → s < (S.Source.model source.now).states → slice_index_or ends.new.values s d ≡ rounds_of (R.Rule.preferred rule.now) (R.Rule.mixed rule.now) count (S.Source.model source.now) (told ends.old.values d) s }
 {
     let states = source.states();
-    match rounds(
-        source,
-        rule,
-        &mut values[..states],
-        &mut spare[..states],
-        count,
-    ) {
-        Ok(()) => {}
-        Err(_) => unreachable(),
-    }
+    let front = &mut ends.values[..states];
+    rounds(source, rule, front, &mut spare.values[..states], count).unwrap();
 }

@@ -6,13 +6,13 @@ ghost use Rattle.trial.specs.Faults.{fault_number};
 // comparison does not go with what the query asks for.
 #[derive(Clone, Copy, PartialEq, Eq, Debug)]
 pub enum TrialFault {
-    Lengths,
-    Marks,
-    NoQuery,
-    Rounds,
-    State,
-    Bound,
-    Aim,
+    Lengths = 30,
+    Marks = 31,
+    NoQuery = 32,
+    Rounds = 33,
+    State = 34,
+    Bound = 35,
+    Aim = 36,
 }
 
 impl TrialFault {
@@ -20,14 +20,6 @@ impl TrialFault {
     pub fn number(&self) -> u8
         ensures { result ≡ fault_number self.now }
     {
-        match *self {
-            TrialFault::Lengths => 30,
-            TrialFault::Marks => 31,
-            TrialFault::NoQuery => 32,
-            TrialFault::Rounds => 33,
-            TrialFault::State => 34,
-            TrialFault::Bound => 35,
-            TrialFault::Aim => 36,
-        }
+        *self as u8
     }
 }

@@ -6,80 +6,58 @@ ghost use Rattle.trial.specs.Queries.{marked};
 ghost use Rattle.trial.specs.Rows.{sets, bytes};
 
 use crate::aim::Aim;
-use crate::row_ends::{ends_after, read_row, until_ends};
+use crate::per_state::PerState;
+use crate::row_ends::ends_after;
+use crate::rows::read_row;
+use crate::threshold::Threshold;
+use crate::until::Until;
 use model::source::Source;
-use records::comparison::Comparison;
-use rules::parts_down::PartsDown;
-use rules::parts_up::PartsUp;
+use rules::rounding::Rounding;
 
-// Marks the states where a part is not a no, at the front of a list.
-fn mark_possible(part: &[u8], marks: &mut [u8])
-    requires { length part.now ≤ length marks.old }
-    ensures { (s : ℕ) → s < length part.now → marked marks.new s ≡ (sets part.now).possible s }
-{
-    for state in 0..part.len() {
-        marks[state] = if part[state] == 0 { 0 } else { 1 };
-    }
-}
-
-// The marks of the states where a part is not a no, at the front of room for all states.
-pub(crate) fn possible_marks(part: &[u8]) -> [u8; 512]
+// The marks of the states where a part is not a no.
+pub(crate) fn possible_marks(part: &[u8]) -> PerState<u8>
     requires { length part.now ≤ 512 }
-    ensures long { length result ≡ 512 }
-    ensures front { (s : ℕ) → s < length part.now → marked result s ≡ (sets part.now).possible s }
+    ensures { (s : ℕ) → s < length part.now → marked result.values s ≡ (sets part.now).possible s }
 {
-    let mut room = [0; 512];
-    mark_possible(part, &mut room);
-    room
+    PerState::of(part, 0, |byte| u8::from(byte != 0))
 }
 
 // The row of a next under a comparison with a bound.
-pub(crate) fn next_row<S: Source>(
-    source: &S,
-    comparison: Comparison,
-    bound: u64,
-    part: &[u8],
-    row: &mut [u8],
-)
+pub(crate) fn next_row<S: Source>(source: &S, threshold: Threshold, part: &[u8], row: &mut [u8])
     requires part_long { length part.now ≡ (S.Source.model source.now).states }
     requires row_long { length row.old ≡ (S.Source.model source.now).states }
-    ensures { row.new ≡ bytes (S.Source.model source.now).states (next_verdicts (meant comparison) bound (S.Source.model source.now) (sets part.now)) }
+    ensures { row.new ≡ bytes (S.Source.model source.now).states (next_verdicts (meant threshold.comparison) threshold.bound (S.Source.model source.now) (sets part.now)) }
 {
-    let preference = Aim::of(comparison).preference();
+    let aim = Aim::from(threshold.comparison);
     let possible = possible_marks(part);
-    let lower = ends_after(source, &PartsDown { preference }, part, 1);
-    let upper = ends_after(source, &PartsUp { preference }, &possible[..part.len()], 1);
-    read_row(comparison, bound, &lower, &upper, row);
+    let lower = ends_after(source, &aim.rule(Rounding::Down), part, 1);
+    let upper = ends_after(
+        source,
+        &aim.rule(Rounding::Up),
+        &possible.values[..part.len()],
+        1,
+    );
+    read_row(threshold, &lower, &upper, row);
 }
 
-// The row of an until with steps under a comparison with a bound: the lower ends over what is sure of its parts, the
-// upper ones over what is possible.
-pub(crate) fn until_within_row<S: Source>(
-    source: &S,
-    comparison: Comparison,
-    bound: u64,
-    steps: u64,
-    left: &[u8],
-    right: &[u8],
-    row: &mut [u8],
-)
-    requires few { steps ≤ most_steps }
-    requires left_long { length left.now ≡ (S.Source.model source.now).states }
-    requires right_long { length right.now ≡ (S.Source.model source.now).states }
-    requires row_long { length row.old ≡ (S.Source.model source.now).states }
-    ensures { row.new ≡ bytes (S.Source.model source.now).states (until_within_verdicts (meant comparison) bound steps (S.Source.model source.now) (sets left.now) (sets right.now)) }
-{
-    let preference = Aim::of(comparison).preference();
-    let states = row.len();
-    let lower = until_ends(source, &PartsDown { preference }, left, right, steps);
-    let left_marks = possible_marks(left);
-    let right_marks = possible_marks(right);
-    let upper = until_ends(
-        source,
-        &PartsUp { preference },
-        &left_marks[..states],
-        &right_marks[..states],
-        steps,
-    );
-    read_row(comparison, bound, &lower, &upper, row);
+impl<'s, 'm, S: Source> Until<'s, 'm, S> {
+    // The row of the until with steps under a comparison with a bound: the lower ends over what is sure of its parts, the
+    // upper ones over what is possible.
+    pub(crate) fn within_row(&self, threshold: Threshold, steps: u64, row: &mut [u8])
+        requires few { steps ≤ most_steps }
+        requires row_long { length row.old ≡ (S.Source.model self.now.source.now).states }
+        ensures { row.new ≡ bytes (S.Source.model self.now.source.now).states (until_within_verdicts (meant threshold.comparison) threshold.bound steps (S.Source.model self.now.source.now) (sets self.now.left.now) (sets self.now.right.now)) }
+    {
+        let aim = Aim::from(threshold.comparison);
+        let lower = self.ends(&aim.rule(Rounding::Down), steps);
+        let left = possible_marks(self.left);
+        let right = possible_marks(self.right);
+        let possible = Until {
+            source: self.source,
+            left: &left.values[..row.len()],
+            right: &right.values[..row.len()],
+        };
+        let upper = possible.ends(&aim.rule(Rounding::Up), steps);
+        read_row(threshold, &lower, &upper, row);
+    }
 }

@@ -1,19 +1,15 @@
 ghost use Rattle.std.specs.Prelude.{◌≡◌, ℕ, ◌<◌, ◌≤◌, length, slice_index_or};
-ghost use Rattle.formula.specs.Tokens.{meant};
 ghost use Rattle.theory.specs.Ends.{held};
 ghost use Rattle.theory.specs.Rounds.{rounds};
-ghost use Rattle.theory.specs.Verdicts.{read_off};
 ghost use Rattle.rules.specs.declared.part.Part.{Part as PartValue};
-ghost use Rattle.rules.specs.Parts.{units_of};
 ghost use Rattle.rounds.specs.Refusals.{most_rounds};
 ghost use Rattle.trial.specs.Queries.{marked};
-ghost use Rattle.trial.specs.Rows.{start_part, bytes};
+ghost use Rattle.trial.specs.Rows.{start_part};
 
-use crate::ends::{advance_front, fill_start, part};
-use crate::layer::settled_layer;
-use crate::verdict::read_off;
+use crate::ends::{advance, start_ends};
+use crate::per_state::PerState;
+use crate::until::Until;
 use model::source::Source;
-use records::comparison::Comparison;
 use rules::part::Part;
 use rules::rule::Rule;
 
@@ -23,51 +19,23 @@ pub(crate) fn ends_after<S: Source, R: Rule<Value = Part>>(
     rule: &R,
     right: &[u8],
     count: u64,
-) -> [Part; 512]
+) -> PerState<Part>
     requires right_long { length right.now ≡ (S.Source.model source.now).states }
     requires few { count ≤ most_rounds }
-    ensures long { length result ≡ 512 }
-    ensures ends { (d : PartValue) (s : ℕ) → s < (S.Source.model source.now).states → slice_index_or result s d ≡ rounds (R.Rule.preferred rule.now) (R.Rule.mixed rule.now) count (S.Source.model source.now) (start_part (marked right.now)) s }
+    ensures { (d : PartValue) (s : ℕ) → s < (S.Source.model source.now).states → slice_index_or result.values s d ≡ rounds (R.Rule.preferred rule.now) (R.Rule.mixed rule.now) count (S.Source.model source.now) (start_part (marked right.now)) s }
 {
-    let mut ends = [part(0); 512];
-    let mut spare = [part(0); 512];
-    fill_start(right, &mut ends);
-    advance_front(source, rule, &mut ends, &mut spare, count);
+    let mut ends = start_ends(right);
+    let mut spare = start_ends(right);
+    advance(source, rule, &mut ends, &mut spare, count);
     ends
 }
 
-// The same over the layer that holds the settled states of "left until right".
-pub(crate) fn until_ends<S: Source, R: Rule<Value = Part>>(
-    source: &S,
-    rule: &R,
-    left: &[u8],
-    right: &[u8],
-    steps: u64,
-) -> [Part; 512]
-    requires left_long { length left.now ≡ (S.Source.model source.now).states }
-    requires right_long { length right.now ≡ (S.Source.model source.now).states }
-    requires few { steps ≤ most_rounds }
-    ensures long { length result ≡ 512 }
-    ensures ends { (d : PartValue) (s : ℕ) → s < (S.Source.model source.now).states → slice_index_or result s d ≡ rounds (R.Rule.preferred rule.now) (R.Rule.mixed rule.now) steps (held (marked left.now) (marked right.now) (S.Source.model source.now)) (start_part (marked right.now)) s }
-{
-    let layer = settled_layer(source, left, right);
-    ends_after(&layer, rule, right, steps)
-}
-
-// The row that is read off two ends at each state.
-pub(crate) fn read_row(
-    comparison: Comparison,
-    bound: u64,
-    lower: &[Part],
-    upper: &[Part],
-    row: &mut [u8],
-)
-    requires lower_long { length row.old ≤ length lower.now }
-    requires upper_long { length row.old ≤ length upper.now }
-    ensures { (d : PartValue) → row.new ≡ bytes (length row.old) (read_off (meant comparison) bound (λ s. units_of (slice_index_or lower.now s d)) (λ s. units_of (slice_index_or upper.now s d))) }
-{
-    for state in 0..row.len() {
-        let verdict = read_off(comparison, bound, lower[state], upper[state]);
-        row[state] = verdict.number();
+impl<'s, 'm, S: Source> Until<'s, 'm, S> {
+    // The same over the layer that holds the settled states of the until.
+    pub(crate) fn ends<R: Rule<Value = Part>>(&self, rule: &R, steps: u64) -> PerState<Part>
+        requires { steps ≤ most_rounds }
+        ensures { (d : PartValue) (s : ℕ) → s < (S.Source.model self.now.source.now).states → slice_index_or result.values s d ≡ rounds (R.Rule.preferred rule.now) (R.Rule.mixed rule.now) steps (held (marked self.now.left.now) (marked self.now.right.now) (S.Source.model self.now.source.now)) (start_part (marked self.now.right.now)) s }
+    {
+        ends_after(&self.layer(), rule, self.right, steps)
     }
 }

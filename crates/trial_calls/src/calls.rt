@@ -6,6 +6,19 @@ use trial::fault::TrialFault;
 use trial::trial::Trial;
 use trial::verdict::Verdict;
 
+// What is asked of a trial: a query, by its marks and what it asks for; how many rounds, in two turns; and at which state, and
+// how its probability compares with a bound.
+#[derive(Clone, Copy)]
+pub(crate) struct Question<'a> {
+    pub(crate) left: &'a [u8],
+    pub(crate) right: &'a [u8],
+    pub(crate) aim: Aim,
+    pub(crate) counts: [u64; 2],
+    pub(crate) state: usize,
+    pub(crate) comparison: Comparison,
+    pub(crate) bound: u64,
+}
+
 // What a query answers at a state after some rounds: its two ends, its rounds, and a verdict.
 #[derive(Drop)]
 pub(crate) struct Answer {
@@ -15,27 +28,21 @@ pub(crate) struct Answer {
     pub(crate) verdict: Verdict,
 }
 
-// Makes a trial, starts a query, advances it twice, and asks for the ends and a verdict at a state.
-pub(crate) fn ask<S: Source>(
-    source: &S,
-    left: &[u8],
-    right: &[u8],
-    aim: Aim,
-    counts: (u64, u64),
-    state: usize,
-    comparison: Comparison,
-    bound: u64,
-) -> Result<Answer, TrialFault> {
-    let mut trial = Trial::over(source);
-    trial.start(left, right, aim)?;
-    trial.advance(counts.0)?;
-    trial.advance(counts.1)?;
-    let (lower, upper, rounds) = trial.ends(state)?;
-    let verdict = trial.verdict(state, comparison, bound)?;
-    Ok(Answer {
-        lower,
-        upper,
-        rounds,
-        verdict,
-    })
+impl<'a> Question<'a> {
+    // Makes a trial, starts the query, advances it twice, and asks for the ends and a verdict at the state.
+    pub(crate) fn ask<S: Source>(&self, source: &S) -> Result<Answer, TrialFault> {
+        let mut trial = Trial::over(source);
+        trial.start(self.left, self.right, self.aim)?;
+        for count in self.counts {
+            trial.advance(count)?;
+        }
+        let (lower, upper, rounds) = trial.ends(self.state)?;
+        let verdict = trial.verdict(self.state, self.comparison, self.bound)?;
+        Ok(Answer {
+            lower,
+            upper,
+            rounds,
+            verdict,
+        })
+    }
 }

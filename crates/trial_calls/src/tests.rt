@@ -1,4 +1,4 @@
-use crate::calls::ask;
+use crate::calls::Question;
 use records::comparison::Comparison;
 use std::test::Fail;
 use tables::tables::Tables;
@@ -32,7 +32,16 @@ fn retried(
     bound: u64,
 ) -> Result<(u32, u32, u64, Verdict), Fail> {
     let source = table(rt, RETRY)?;
-    let answer = ask(&source, left, &[0, 1, 0], aim, (1, 1), 0, comparison, bound)?;
+    let question = Question {
+        left,
+        right: &[0, 1, 0],
+        aim,
+        counts: [1, 1],
+        state: 0,
+        comparison,
+        bound,
+    };
+    let answer = question.ask(&source)?;
     Ok((
         answer.lower.units(),
         answer.upper.units(),
@@ -87,16 +96,16 @@ fn thirds_are_undecided(rt: HostRuntime) -> Result<(), Fail> {
         (555_555_555, Verdict::Undecided),
         (555_555_556, Verdict::Yes),
     ] {
-        let answer = ask(
-            &source,
-            &[1, 1],
-            &[0, 1],
-            Aim::Best,
-            (0, 2),
-            0,
-            Comparison::AtMost,
+        let question = Question {
+            left: &[1, 1],
+            right: &[0, 1],
+            aim: Aim::Best,
+            counts: [0, 2],
+            state: 0,
+            comparison: Comparison::AtMost,
             bound,
-        )?;
+        };
+        let answer = question.ask(&source)?;
         assert_eq!(rt; answer.lower.units(), 555_555_555);
         assert_eq!(rt; answer.upper.units(), 555_555_556);
         assert_eq!(rt; answer.verdict, verdict);
@@ -104,27 +113,21 @@ fn thirds_are_undecided(rt: HostRuntime) -> Result<(), Fail> {
     Ok(())
 }
 
-// The number that a query on THIRDS is refused with, or 0.
-fn refusal(
-    rt: &HostRuntime,
-    left: &[u8],
-    right: &[u8],
-    count: u64,
-    state: usize,
-    comparison: Comparison,
-    bound: u64,
-) -> Result<u8, Fail> {
+// A question on THIRDS that is answered.
+const ANSWERED: Question<'static> = Question {
+    left: &[1, 0],
+    right: &[0, 1],
+    aim: Aim::Best,
+    counts: [1, 1],
+    state: 0,
+    comparison: Comparison::Below,
+    bound: 0,
+};
+
+// The number that a question on THIRDS is refused with, or 0.
+fn refusal(rt: &HostRuntime, question: Question<'_>) -> Result<u8, Fail> {
     let source = table(rt, THIRDS)?;
-    match ask(
-        &source,
-        left,
-        right,
-        Aim::Best,
-        (1, count),
-        state,
-        comparison,
-        bound,
-    ) {
+    match question.ask(&source) {
         Ok(_) => Ok(0),
         Err(fault) => Ok(fault.number()),
     }
@@ -132,19 +135,26 @@ fn refusal(
 
 #[test]
 fn edges_of_marks(rt: HostRuntime) -> Result<(), Fail> {
-    let below = Comparison::Below;
-    assert_eq!(rt; refusal(&rt, &[1, 0], &[0, 1], 1, 0, below, 0)?, 0);
-    assert_eq!(rt; refusal(&rt, &[1], &[0, 1], 1, 0, below, 0)?, 30);
-    assert_eq!(rt; refusal(&rt, &[1, 0], &[0, 1, 0], 1, 0, below, 0)?, 30);
-    assert_eq!(rt; refusal(&rt, &[2, 0], &[0], 1, 0, below, 0)?, 30);
-    assert_eq!(rt; refusal(&rt, &[2, 0], &[0, 1], 1, 0, below, 0)?, 31);
-    assert_eq!(rt; refusal(&rt, &[1, 0], &[0, 255], 1, 0, below, 0)?, 31);
+    for (left, right, number) in [
+        (&[1, 0][..], &[0, 1][..], 0),
+        (&[1][..], &[0, 1][..], 30),
+        (&[1, 0][..], &[0, 1, 0][..], 30),
+        (&[2, 0][..], &[0][..], 30),
+        (&[2, 0][..], &[0, 1][..], 31),
+        (&[1, 0][..], &[0, 255][..], 31),
+    ] {
+        let question = Question {
+            left,
+            right,
+            ..ANSWERED
+        };
+        assert_eq!(rt; refusal(&rt, question)?, number);
+    }
     Ok(())
 }
 
 #[test]
 fn edges_of_queries(rt: HostRuntime) -> Result<(), Fail> {
-    let (left, right) = ([1, 1], [0, 1]);
     for (count, state, comparison, bound, number) in [
         (99_999, 1, Comparison::Below, WHOLE, 0),
         (100_000, 0, Comparison::Below, 0, 33),
@@ -154,10 +164,15 @@ fn edges_of_queries(rt: HostRuntime) -> Result<(), Fail> {
         (1, 1, Comparison::Above, WHOLE, 36),
         (1, 1, Comparison::AtLeast, 0, 36),
     ] {
-        assert_eq!(rt;
-            refusal(&rt, &left, &right, count, state, comparison, bound)?,
-            number
-        );
+        let question = Question {
+            left: &[1, 1],
+            counts: [1, count],
+            state,
+            comparison,
+            bound,
+            ..ANSWERED
+        };
+        assert_eq!(rt; refusal(&rt, question)?, number);
     }
     Ok(())
 }

@@ -1,6 +1,6 @@
 use Rattle.std.proofs.Common.{◌≡◌, length, take, drop, vec_items, sym, ap, ◌∙◌, arith}
 use Rattle.std.proofs.lemmas.List.{take_at}
-use Rattle.console.specs.declared.reply.Form.TheVariants.{Text}
+use Rattle.console.specs.declared.command.Form.TheVariants.{Text}
 use Rattle.console.specs.Replies.{printed}
 use Rattle.console.proofs.Returning.{accepted}
 use Rattle.console.proofs.answer.write_reply.Goals as goal

@@ -3,7 +3,7 @@ use Rattle.std.proofs.Common.{◌+◌, ◌-◌, ◌*◌, length}
 use Rattle.formula.proofs.formulas.+path_formula_state_formula.Given as goal
 
 abbrev pub decreases-path_formula : goal.decreases-path_formula
-decreases-path_formula l = 2 * (length l.text.now - l.at) + 1
+decreases-path_formula l = 2 * (length l.from.text.now - l.from.at) + 1
 
 abbrev pub decreases-state_formula : goal.decreases-state_formula
-decreases-state_formula l = 2 * (length l.text.now - l.at)
+decreases-state_formula l = 2 * (length l.from.text.now - l.from.at)

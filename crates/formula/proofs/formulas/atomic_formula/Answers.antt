@@ -1,30 +1,42 @@
-use Rattle.std.proofs.Common.{sym, arith}
-use Rattle.std.proofs.lemmas.Result.{err_from_is_err_and}
+use Rattle.std.proofs.Common.{◌≡◌, ◌<◌, length, get_or, rules, arith}
 use Rattle.grammar.proofs.Formulas.{true_refused, none_refused}
-use Rattle.formula.proofs.Signs.{has_true, has_false}
+use Rattle.formula.proofs.Signs.{rest_of}
 use Rattle.formula.proofs.Forms.{read_truth, read_label, known}
 use Rattle.formula.proofs.formulas.atomic_formula.Goals as goal
-use Rattle.formula.proofs.formulas.atomic_formula.Goals.{else-at-text-via-then-at-text+then-text-at-ge97+else-text-at-le112, else-at-text-via-then-at-text+else-text-at-ge97, else-at-text-via-else-at-text}
 
-pub returns-in_err-end : goal.returns-in_err-end
-returns-in_err-end c =
-    let p = err_from_is_err_and c.from_residual.result c.from_residual.ensures.1 in
-    let here = has_true _ _ _ (sym c.if-stands.ensures) in
-    rw (p.1, p.2) (true_refused _ _ here.0 here.1 c.in_err-end.ensures)
+-- `true_refused`: behind a `t`, what refuses `true` refuses the formula
+pub returns-in_err-end-in-116 : goal.returns-in_err-end-in-116
+returns-in_err-end-in-116 c =
+    let (long, first) = rest_of c.args.from.text.now c.args.from.at in
+    let inside : c.args.from.at < length c.args.from.text.now = omega (arith, c.in-116.len_at_least, long) in
+    let here : get_or c.args.from.text.now c.args.from.at 0 ≡ 116 = omega (arith, first) in
+    search (rules, true_refused)
 
-pub returns-then-stands : goal.returns-then-stands
-returns-then-stands c = known c.atom.ensures (read_truth (omega arith) c.in_ok-end.ensures c.atomic.ensures c.put.ensures)
+-- `read_truth`: what is known of `true`
+pub returns-in_ok-end-in-116 : goal.returns-in_ok-end-in-116
+returns-in_ok-end-in-116 c = known c.atom.ensures (read_truth (omega arith) c.in_ok-end-in-116.ensures c.atomic.ensures c.put.ensures)
 
-pub returns-then-text-at-le112 : goal.returns-then-text-at-le112
-returns-then-text-at-le112 c =
-    known c.atom-then-text-at-le112.ensures
-    (read_label (omega arith) (omega arith) (omega arith) (omega arith) c.atomic-then-text-at-le112.ensures c.put-then-text-at-le112.ensures)
+-- `read_label`: what is known of a letter
+pub returns-in-97-to-112 : goal.returns-in-97-to-112
+returns-in-97-to-112 c =
+    let (long, first) = rest_of c.args.from.text.now c.args.from.at in
+    known c.atom-in-97-to-112.ensures
+    (read_label (omega arith) (omega (arith, c.in-97-to-112.len_at_least, long)) (omega (arith, first)) (omega (arith, first)) (rw first at c.atomic-in-97-to-112.ensures) c.put-in-97-to-112.ensures)
 
-pub returns : goal.returns
-returns c =
-    none_refused _ _ (omega arith) (has_false _ _ _ (sym c.if-stands.ensures))
-    (λ l lo hi. elim c.else-at-text.branch [
-      | else-at-text-via-then-at-text+then-text-at-ge97+else-text-at-le112 w ↦ omega (arith, hi, w.if-text-at-le112.false)
-      | else-at-text-via-then-at-text+else-text-at-ge97 w ↦ omega (arith, lo, w.if-text-at-ge97.false)
-      | else-at-text-via-else-at-text w ↦ omega (arith, l, w.if-at-text.false)
-    ])
+-- `none_refused`: neither `true` nor a letter begins where the text ends
+pub returns-in_default : goal.returns-in_default
+returns-in_default c =
+    let (long, first) = rest_of c.args.from.text.now c.args.from.at in
+    none_refused _ _ c.args.from.inside (λ l _. omega (arith, l, c.in_default.len_below, long)) (λ l _ _. omega (arith, l, c.in_default.len_below, long))
+
+-- nor with any other byte, below the letters
+pub returns-in_default-2 : goal.returns-in_default-2
+returns-in_default-2 c =
+    let (long, first) = rest_of c.args.from.text.now c.args.from.at in
+    none_refused _ _ c.args.from.inside (λ _ e. omega (arith, e, first)) (λ _ lo hi. omega (arith, lo, hi, first))
+
+-- or above them
+pub returns-in_default-3 : goal.returns-in_default-3
+returns-in_default-3 c =
+    let (long, first) = rest_of c.args.from.text.now c.args.from.at in
+    none_refused _ _ c.args.from.inside (λ _ e. omega (arith, e, first)) (λ _ lo hi. omega (arith, lo, hi, first))

@@ -1,9 +1,5 @@
-use Rattle.std.proofs.Common.{◌-◌, length}
 use Rattle.formula.specs.Tokens.{DigitsBegun}
 use Rattle.formula.proofs.token.digits.Given as goal
 
 abbrev pub invariant-loop-length : goal.invariant-loop-length
 invariant-loop-length l = DigitsBegun l.field l.length l.value
-
-abbrev pub decreases-loop-length : goal.decreases-loop-length
-decreases-loop-length l = length l.field - l.length

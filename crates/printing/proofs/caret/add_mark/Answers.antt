@@ -1,13 +1,20 @@
-use Rattle.std.proofs.Common.{◌-◌, eqb, [], ◌++◌, take, string_bytes, sym, ap, ◌∙◌}
+use Rattle.std.proofs.Common.{◌≡◌, ◌-◌, ◌++◌, eqb, [], take, string_bytes, OnOk, sym, ap, ◌∙◌, subst, arith}
 use Rattle.std.proofs.lemmas.Bool.{cond-false, ne_eqb}
+use Rattle.std.proofs.lemmas.List.{take_min}
 use Rattle.text.specs.Cuts.{piece}
-use Rattle.printing.specs.Carets.{marked}
+use Rattle.printing.specs.Carets.{marked, mark}
 use Rattle.printing.proofs.caret.add_mark.Goals as goal
 
-pub returns : goal.returns
-returns c =
-    let line = take 100 (piece 10 (c.args.number - 1) c.args.text.now) in
-    let some = cond-false (eqb c.args.number 0) [] (marked c.args.field line) (ne_eqb c.args.number 0 c.if-number-eq0.false) in
-    c.in_ok-add_marked.ensures
-    ∙ ap (λ t. string_bytes c.args.out.now ++ marked c.args.field t) (c.front.ensures ∙ ap (take 100) c.piece.ensures)
-    ∙ ap (λ t. string_bytes c.args.out.now ++ t) (sym some)
+pub returns-in-Some : goal.returns-in-Some
+returns-in-Some c =
+    let n = c.args.number in
+    let line = c.piece-line.result.now in
+    let text = c.args.text.now in
+    let below = rw c.in-Some.is at c.checked_sub.ensures in
+    -- the line is cut after 100 bytes
+    let front : take c.min.result line ≡ take 100 line = ap (λ k. take k line) (omega arith) ∙ take_min 100 line in
+    -- and is the piece of the text with this number
+    let found : line ≡ piece 10 (n - 1) text = c.piece-line.ensures ∙ ap (λ k. piece 10 k text) below.1 in
+    let shown : marked c.args.field (take c.min.result line) ≡ mark n c.args.field text =
+    ap (marked c.args.field) (front ∙ ap (take 100) found) ∙ sym (cond-false (eqb n 0) [] (marked c.args.field (take 100 (piece 10 (n - 1) text))) (ne_eqb n 0 (λ e. omega arith))) in
+    subst (λ t. OnOk c.add_marked.result (string_bytes c.add_marked.new.out ≡ string_bytes c.args.out.now ++ t)) shown c.add_marked.ensures

@@ -1,11 +1,17 @@
-use Rattle.std.proofs.Common.{◌+◌, arith}
-use Rattle.printing.proofs.Counting.{branches_more, branches_small}
+use Rattle.std.proofs.Common.{sym, ◌∙◌, rules}
+use Rattle.std.specs.List.{range_with_len}
+use Rattle.std.proofs.lemmas.Iterator.Consumers.{sum_by_from_yields_List, fits_by_from_yields_list}
+use Rattle.printing.proofs.Counting.{over_range, branches_at, branches_counted, branches_fit}
 use Rattle.printing.proofs.counts.branch_count.Goals as goal
 
-pub overflow_add-count : goal.overflow_add-count
-overflow_add-count g c =
+pub sum-requires-clause-fits : goal.sum-requires-clause-fits
+sum-requires-clause-fits g c =
     let m = g.S.Source.model c.args.source.now in
-    omega (arith, branches_more m c.loop-state.state, branches_small m (g.S.Source.lawful c.args.source.now) (c.loop-state.state + 1) (omega arith))
+    fits_by_from_yields_list (branches_at m) (range_with_len 0 m.states) c.map.result _ (over_range _ (branches_at m) m.states c.map.ensures.source c.states.ensures c.map.ensures.closure (λ x r q k. search rules))
+    (branches_fit m (g.S.Source.lawful c.args.source.now))
 
-pub loop-state-preserved : goal.loop-state-preserved
-loop-state-preserved g c = omega (arith, branches_more (g.S.Source.model c.args.source.now) c.loop-state.state)
+pub returns : goal.returns
+returns g c =
+    let m = g.S.Source.model c.args.source.now in
+    sum_by_from_yields_List (branches_at m) (range_with_len 0 m.states) c.map.result _ c.sum.ensures.ran (over_range _ (branches_at m) m.states c.map.ensures.source c.states.ensures c.map.ensures.closure (λ x r q k. search rules))
+    ∙ sym (branches_counted m (range_with_len 0 m.states))

@@ -1,18 +1,17 @@
-use Rattle.std.proofs.Common.{◌+◌, length, ap, arith}
-use Rattle.std.proofs.lemmas.List.{take_all}
-use Rattle.text.specs.Contents.{all_branches}
-use Rattle.printing.proofs.Counting.{row_more, rows_small}
+use Rattle.std.proofs.Common.{sym, ◌∙◌, rules}
+use Rattle.std.specs.List.{range_with_len}
+use Rattle.std.proofs.lemmas.Iterator.Consumers.{sum_by_from_yields_List, fits_by_from_yields_list}
+use Rattle.printing.proofs.Counting.{over_range, choices_at, branches_of, state_counted, state_fits}
 use Rattle.printing.proofs.counts.state_branches.Goals as goal
 
-pub overflow_add-count : goal.overflow_add-count
-overflow_add-count g c =
-    let rs = (g.S.Source.model c.args.source.now).choices c.args.state in
-    omega (arith, row_more rs c.loop-choice.choice (omega arith), rows_small _ (g.S.Source.lawful c.args.source.now) c.args.state (c.loop-choice.choice + 1))
-
-pub loop-choice-preserved : goal.loop-choice-preserved
-loop-choice-preserved g c = omega (arith, row_more ((g.S.Source.model c.args.source.now).choices c.args.state) c.loop-choice.choice (omega arith))
+pub sum-requires-clause-fits : goal.sum-requires-clause-fits
+sum-requires-clause-fits g c =
+    let m = g.S.Source.model c.args.source.now in
+    fits_by_from_yields_list (branches_of m c.args.state) (range_with_len 0 (choices_at m c.args.state)) c.map.result _ (over_range _ (branches_of m c.args.state) (choices_at m c.args.state) c.map.ensures.source c.choices.ensures c.map.ensures.closure (λ x r q k. search rules))
+    (state_fits m (g.S.Source.lawful c.args.source.now) c.args.state)
 
 pub returns : goal.returns
 returns g c =
-    let rs = (g.S.Source.model c.args.source.now).choices c.args.state in
-    omega (arith, ap (λ t. length (all_branches t)) (take_all c.loop-choice.choice rs (omega arith)))
+    let m = g.S.Source.model c.args.source.now in
+    sum_by_from_yields_List (branches_of m c.args.state) (range_with_len 0 (choices_at m c.args.state)) c.map.result _ c.sum.ensures.ran (over_range _ (branches_of m c.args.state) (choices_at m c.args.state) c.map.ensures.source c.choices.ensures c.map.ensures.closure (λ x r q k. search rules))
+    ∙ sym (state_counted m c.args.state)

@@ -1,5 +1,7 @@
 use Rattle.std.proofs.Common.{◌≡◌, suc, false, sym, ap, ◌∙◌, add-one, arith, rules, below_more}
-use Rattle.theory.proofs.Lists.{true_not_false}
+use Rattle.std.specs.Cmp.{booleans_Decides}
+use Rattle.std.proofs.lemmas.Bool.{both_ways}
+use Rattle.std.proofs.lemmas.Slice.Eq.{slice_eq-Decides}
 use Rattle.rounds.proofs.Settling.{list_after, list_none, list_more, settled_same, settled_here, unsettled_here}
 use Rattle.rounds.proofs.settle.settle.Goals as goal
 
@@ -7,12 +9,11 @@ pub loop-done-init : goal.loop-done-init
 loop-done-init g c =
     let x = c.args.source.now in
     let states = c.states-states.ensures in
-    let long = c.if-marks-states.false in (
+    let long = c.in_ok-check_lengths.ensures.0 in (
       list_none c.args.rule.now.preference (g.S.Source.model x) (g.S.Source.lawful x) c.args.marks.now (long ∙ states),
       λ k e. absurd (omega arith),
       λ j h. absurd (omega arith),
       omega arith,
-      search rules,
     )
 
 pub loop-done-preserved : goal.loop-done-preserved
@@ -25,12 +26,12 @@ loop-done-preserved g c =
     let done = c.loop-done.done in
     let more = list_more p m l marks done c.loop-done.marks c.one_round.new.values c.loop-done.invariant.0 (c.one_round.ensures.values false) in
     let before = c.one_round.ensures.spare ∙ c.loop-done.invariant.0 in
-    let few = c.if-done-states.false in (
+    let few = c.if-done-states.false in
+    let same = slice_eq-Decides booleans_Decides _ _ _ c.eq.ensures in (
       more ∙ ap (list_after p m l marks) (sym (add-one done)),
       λ k e. before ∙ ap (list_after p m l marks) (omega arith),
-      below_more _ _ c.loop-done.invariant.2 (λ settled. true_not_false c.alike.result (c.alike.ensures.1 (more ∙ settled_same p m l marks done settled ∙ sym before)) c.if-alike.false),
+      below_more _ _ c.loop-done.invariant.2 (λ settled. absurd (both_ways c.eq.result c.if-eq.false (same.1 (more ∙ settled_same p m l marks done settled ∙ sym before)))),
       omega arith,
-      search rules,
     )
 
 pub returns-then-done-states : goal.returns-then-done-states
@@ -44,8 +45,8 @@ returns-then-done-states g c =
     unsettled_here c.args.rule.now.preference m (g.S.Source.lawful x) c.args.marks.now c.args.spare.now c.loop-done.marks c.loop-done.spare (search rules) c.loop-done.done
     c.loop-done.invariant.2 all c.loop-done.invariant.0 (c.loop-done.invariant.1 m.states all)
 
-pub returns-then-alike : goal.returns-then-alike
-returns-then-alike g c =
+pub returns-then-eq : goal.returns-then-eq
+returns-then-eq g c =
     let x = c.args.source.now in
     let m = g.S.Source.model x in
     let l = g.S.Source.lawful x in
@@ -55,5 +56,6 @@ returns-then-alike g c =
     let more = list_more p m l marks done c.loop-done.marks c.one_round.new.values c.loop-done.invariant.0 (c.one_round.ensures.values false) in
     let states = c.states-states.ensures in
     let few = c.if-done-states.false in
+    let same = slice_eq-Decides booleans_Decides _ _ _ c.eq.ensures in
     settled_here p m l marks c.args.spare.now c.one_round.new.values c.one_round.new.spare (search rules) done
-    c.loop-done.invariant.2 (omega arith) more (c.one_round.ensures.spare ∙ c.loop-done.invariant.0) (c.alike.ensures.0 c.if-alike.true)
+    c.loop-done.invariant.2 (omega arith) more (c.one_round.ensures.spare ∙ c.loop-done.invariant.0) (same.0 c.if-eq.true)

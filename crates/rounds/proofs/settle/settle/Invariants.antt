@@ -1,4 +1,4 @@
-use Rattle.std.proofs.Common.{◌≡◌, ℕ, suc, ◌+◌, ◌-◌, ◌<◌, ◌≤◌, length}
+use Rattle.std.proofs.Common.{◌≡◌, ℕ, suc, ◌+◌, ◌-◌, ◌<◌, ◌≤◌}
 use Rattle.theory.specs.WithoutSteps.{Settled}
 use Rattle.rounds.specs.Runs.{listed}
 use Rattle.rounds.specs.Settles.{marks_after}
@@ -13,7 +13,6 @@ invariant-loop-done g l =
     × ((k : ℕ) → l.done ≡ suc k → l.spare ≡ listed m.states (after k))
     × ((j : ℕ) → j < l.done → ¬ (Settled m after j))
     × (l.done ≤ l.states + 1)
-    × (length l.buffer ≡ 512)
 
 abbrev pub decreases-loop-done : goal.decreases-loop-done
 decreases-loop-done g l = l.states + 2 - l.done

@@ -1,39 +1,24 @@
-use Rattle.std.proofs.Common.{◌≡◌, suc, ◌+◌, ◌-◌, length, take, sym, ap, ◌∙◌, arith, length-drop}
-use Rattle.std.proofs.lemmas.List.{take_rest}
-use Rattle.text.specs.Cuts.{piece}
-use Rattle.text.proofs.Cutting.{piece_first, piece_more, piece_none}
+use Rattle.std.proofs.Common.{◌≡◌, ℕ, eqb, List, [], get_or, None, Some, Option, Bor, refl, ap, ◌∙◌, rules, tests}
+use Rattle.std.specs.Option.{unwrap_or, option_map}
+use Rattle.std.proofs.lemmas.Option.{unwrap_or-slice_get}
+use Rattle.std.proofs.lemmas.Iterator.Consumers.{nth_from_yields_List}
+use Rattle.std.proofs.lemmas.Iterator.Splits.{YieldsList-from_slice_split}
+use Rattle.text.proofs.Cutting.{split_pieces}
 use Rattle.text.proofs.cut.piece.Goals as goal
 
-pub returns-then-length-rest : goal.returns-then-length-rest
-returns-then-length-rest c =
-    let rest = c.loop.rest.now in
-    let left = c.args.index - (c.loop.counter + 1) in
-    let next : c.args.index - c.loop.counter ≡ suc left = omega arith in
-    sym (piece_none c.args.sep rest c.piece_length-length.result left c.piece_length-length.ensures (omega arith))
-    ∙ ap (λ z. piece c.args.sep z rest) (sym next)
-    ∙ c.loop.invariant.1
+-- what a reference or another lends is what the one lends, or else the other
+lent : (o : Option (Bor (List ℕ))) (d : Bor (List ℕ)) → (unwrap_or o d).now ≡ unwrap_or (option_map (λ x. x.now) o) d.now
+lent None d = refl
+lent (Some x) d = refl
 
-pub loop-preserved : goal.loop-preserved
-loop-preserved c =
-    let rest = c.loop.rest.now in
-    let r = c.piece_length-length.result in
-    let left = c.args.index - (c.loop.counter + 1) in
-    let next : c.args.index - c.loop.counter ≡ suc left = omega arith in
-    let short = take_rest rest (r + 1) in (
-      omega (arith, ap length short, length-drop (r + 1) rest),
-      ap (λ z. piece c.args.sep left z) short
-          ∙ sym (piece_more c.args.sep rest r left c.piece_length-length.ensures (omega (arith, c.piece_length-length.ensures.within)))
-          ∙ ap (λ z. piece c.args.sep z rest) (sym next)
-          ∙ c.loop.invariant.1,
-    )
-
+-- `split` gives the pieces, and `nth` the one that is asked for
 pub returns : goal.returns
 returns c =
-    let rest = c.loop.rest.now in
-    let r = c.piece_length.result in
-    let all : r - 0 ≡ r = omega arith in
-    let none : 0 ≡ c.args.index - c.loop.counter = omega arith in
-    ap (λ z. take z rest) all
-    ∙ piece_first c.args.sep rest r c.piece_length.ensures
-    ∙ ap (λ z. piece c.args.sep z rest) none
-    ∙ c.loop.invariant.1
+    let sep = c.args.sep in
+    let bytes = c.args.bytes.now in
+    ap (λ p. p.now) c.unwrap_or.ensures
+    ∙ lent c.nth.result _
+    ∙ ap (λ p. unwrap_or p [])
+    (nth_from_yields_List c.nth.result _ c.args.index c.nth.ensures.ran (YieldsList-from_slice_split _ (λ b. eqb b sep) bytes c.split.ensures.rest c.split.ensures.done c.split.ensures.closure (λ x b q k. search (rules, tests))))
+    ∙ unwrap_or-slice_get _ c.args.index []
+    ∙ ap (λ ps. get_or ps c.args.index []) (split_pieces sep bytes)

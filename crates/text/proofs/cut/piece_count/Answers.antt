@@ -1,20 +1,11 @@
-use Rattle.std.proofs.Common.{◌+◌, length, get_or, drop, arith}
-use Rattle.std.proofs.lemmas.List.{at_drop_more, at_drop_all}
-use Rattle.text.specs.Cuts.{pieces}
-use Rattle.text.proofs.Cutting.{count_more, count_same}
+use Rattle.std.proofs.Common.{rules, length, ap, ◌∙◌, eqb, tests}
+use Rattle.std.proofs.lemmas.Iterator.Consumers.{count_from_yields_List}
+use Rattle.std.proofs.lemmas.Iterator.Splits.{YieldsList-from_slice_split}
+use Rattle.text.proofs.Cutting.{split_pieces}
 use Rattle.text.proofs.cut.piece_count.Goals as goal
-use Rattle.text.proofs.cut.piece_count.Goals.{then-byte-sep, else-byte-sep}
 
-pub loop-byte-preserved : goal.loop-byte-preserved
-loop-byte-preserved c =
-    let sep = c.args.sep in
-    let bytes = c.args.bytes.now in
-    let i = c.loop-byte.byte-index in
-    let step = at_drop_more (λ z. length (pieces sep z)) bytes i 0 (omega arith) in
-    elim c.if-byte-sep.branch [
-      | then-byte-sep w ↦ (omega (arith, w.count-is), omega (arith, w.count-is, step, c.loop-byte.invariant.1, count_more sep (get_or bytes i 0) (drop (i + 1) bytes) w.if-byte-sep.true))
-      | else-byte-sep w ↦ (omega (arith, w.count-is), omega (arith, w.count-is, step, c.loop-byte.invariant.1, count_same sep (get_or bytes i 0) (drop (i + 1) bytes) w.if-byte-sep.false))
-    ]
-
+-- as many pieces are counted as `split` gives
 pub returns : goal.returns
-returns c = omega (arith, c.loop-byte.invariant.1, at_drop_all (λ z. length (pieces c.args.sep z)) c.args.bytes.now c.loop-byte.byte-index (omega arith))
+returns c =
+    count_from_yields_List c.split.result _ c.count.ensures.ran (YieldsList-from_slice_split _ (λ b. eqb b c.args.sep) c.args.bytes.now c.split.ensures.rest c.split.ensures.done c.split.ensures.closure (λ x b q k. search (rules, tests)))
+    ∙ ap length (split_pieces c.args.sep c.args.bytes.now)

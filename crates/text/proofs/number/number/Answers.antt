@@ -1,39 +1,35 @@
-use Rattle.std.proofs.Common.{◌≡◌, ◌<◌, ◌⊎◌, length, Ok, Err, sym, refl, ap, ◌∙◌, inl, inr, ⊎_elim, arith}
-use Rattle.std.proofs.lemmas.List.{take_all}
-use Rattle.std.proofs.lemmas.Bool.{cond-true, cond-false}
-use Rattle.text.specs.declared.fault.FieldFault.TheVariants.{Number}
+use Rattle.std.proofs.Common.{◌≡◌, ℕ, ◌≤◌, List, length, Ok, sym, ap, ◌∙◌, arith, rules}
+use Rattle.std.proofs.lemmas.Result.{MatchResult-at_ok}
+use Rattle.std.proofs.lemmas.Bool.{cond-true}
 use Rattle.text.specs.Fields.{lawful_number, longest, amount}
-use Rattle.text.proofs.Longest.{whole_passes, whole_fails}
-use Rattle.text.proofs.Digits.{next_digit, number_from, number_to}
+use Rattle.text.proofs.Longest.{whole_passes}
+use Rattle.text.proofs.Digits.{Number as IsNumber, number_from, number_to, number_text, number_parsed}
 use Rattle.text.proofs.number.number.Goals as goal
 
-pub returns-then-length-eq0 : goal.returns-then-length-eq0
-returns-then-length-eq0 c =
-    let field = c.args.field.now in
-    let e = c.number_length-length.ensures in
-    let short : (longest lawful_number field ≡ 0) ⊎ (longest lawful_number field < length field) = ⊎_elim (λ h. inl (sym e ∙ h)) (λ h. inr (omega (arith, e, h.1))) c.then-length-eq0.either in
-    ap (λ z. Err (Number c.args.index z)) e ∙ sym (cond-false (lawful_number field) _ _ (whole_fails lawful_number field refl short))
+-- past the test, the field is a number: its longest lawful beginning is all of it
+whole : (w : List ℕ) (n : ℕ) → n ≡ longest lawful_number w → (n ≡ 0 → ⊥) → length w ≤ n → IsNumber w
+whole w n e some all = number_from w (whole_passes lawful_number w (omega arith) (omega arith))
 
-pub loop-byte-init : goal.loop-byte-init
-loop-byte-init c =
-    let field = c.args.field.now in
-    let e = c.number_length-length.ensures in
-    (number_from field (whole_passes lawful_number field (omega (arith, e)) (omega (arith, e))), refl)
+-- so it is text
+pub unwrap-digits-requires : goal.unwrap-digits-requires
+unwrap-digits-requires c =
+    let t = number_text c.args.field.now (whole _ _ c.number_length-length.ensures (omega arith) (omega arith)) in
+    let h = c.from_utf8.ensures.cases in search rules
 
-pub overflow_mul-value : goal.overflow_mul-value
-overflow_mul-value c = let n = next_digit _ _ c.loop-byte.invariant.0 c.loop-byte-test.true in omega (arith, c.loop-byte.invariant.1)
+-- and the text is parsed
+pub unwrap-requires : goal.unwrap-requires
+unwrap-requires c =
+    let same = MatchResult-at_ok _ _ _ c.unwrap-digits.ensures c.from_utf8.ensures.cases in
+    let e = number_parsed c.args.field.now _ _ same.0 c.parse.ensures.value.0 (whole _ _ c.number_length-length.ensures (omega arith) (omega arith)) in
+    search rules
 
-pub overflow_sub-value : goal.overflow_sub-value
-overflow_sub-value c = (next_digit _ _ c.loop-byte.invariant.0 c.loop-byte-test.true).digit
-
-pub overflow_add-value : goal.overflow_add-value
-overflow_add-value c = let n = next_digit _ _ c.loop-byte.invariant.0 c.loop-byte-test.true in omega (arith, c.loop-byte.invariant.1)
-
-pub loop-byte-preserved : goal.loop-byte-preserved
-loop-byte-preserved c = (c.loop-byte.invariant.0, (let n = next_digit _ _ c.loop-byte.invariant.0 c.loop-byte-test.true in omega (arith, c.loop-byte.invariant.1)))
-
+-- to its amount
 pub returns : goal.returns
 returns c =
     let field = c.args.field.now in
-    ap Ok (c.loop-byte.invariant.1 ∙ ap amount (take_all c.loop-byte.byte-index field (omega arith)))
-    ∙ sym (cond-true (lawful_number field) _ _ (number_to field c.loop-byte.invariant.0))
+    let n : IsNumber field = whole _ _ c.number_length-length.ensures (omega arith) (omega arith) in
+    let same = MatchResult-at_ok _ _ _ c.unwrap-digits.ensures c.from_utf8.ensures.cases in
+    let e = number_parsed field _ _ same.0 c.parse.ensures.value.0 n in
+    let u = c.unwrap.ensures in
+    let t : c.unwrap.result ≡ amount field = cc in
+    ap Ok t ∙ sym (cond-true (lawful_number field) _ _ (number_to field n))

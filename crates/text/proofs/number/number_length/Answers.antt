@@ -1,24 +1,20 @@
-use Rattle.std.proofs.Common.{sym, inl, inr, arith}
-use Rattle.std.proofs.lemmas.Int.Digits.{digits_more}
-use Rattle.text.proofs.Digits.{length_zero, length_begun}
+use Rattle.std.proofs.Common.{rules, sym, ◌∙◌, tests, take}
+use Rattle.std.specs.Char.{is_ascii_digit}
+use Rattle.std.proofs.lemmas.Iterator.{YieldsList-from_slice, YieldsList-from_take}
+use Rattle.std.proofs.lemmas.Iterator.Consumers.{count_from_yields_List}
+use Rattle.std.proofs.lemmas.Iterator.Search.{YieldsList-from_take_while}
+use Rattle.std.proofs.lemmas.List.Folds.{length-prefix_len}
+use Rattle.text.proofs.Digits.{length_zero, length_digits}
 use Rattle.text.proofs.number.number_length.Goals as goal
 
-pub returns-then-field-eq48 : goal.returns-then-field-eq48
-returns-then-field-eq48 c = sym (length_zero c.args.field.now (omega arith) (omega arith))
+-- after a 0 nothing more is read
+pub returns-then-starts_with : goal.returns-then-starts_with
+returns-then-starts_with c = sym (length_zero c.args.field.now (sym c.if-starts_with.ensures.value))
 
-pub loop-length-preserved : goal.loop-length-preserved
-loop-length-preserved c = record {
-  within = omega arith;
-  few = omega arith;
-  digits = digits_more 10 c.args.field.now c.loop-length.length (omega arith) c.loop-length.invariant.digits c.if-is_ascii_digit.ensures.bound;
-  lead = c.loop-length.invariant.lead;
-}
-
-pub returns-else-is_ascii_digit : goal.returns-else-is_ascii_digit
-returns-else-is_ascii_digit c = sym (length_begun _ _ c.loop-length.invariant (λ _. inr (λ h. omega (arith, h, c.if-is_ascii_digit.ensures.cases))))
-
-pub returns-else-length-lt7 : goal.returns-else-length-lt7
-returns-else-length-lt7 c = sym (length_begun _ _ c.loop-length.invariant (λ _. inl c.if-length-lt7.false))
-
-pub returns-after-loop-length : goal.returns-after-loop-length
-returns-after-loop-length c = sym (length_begun _ _ c.loop-length.invariant (λ l. absurd (omega (arith, l))))
+-- else what is counted are the digits at the front of seven bytes
+pub returns : goal.returns
+returns c =
+    let xs = c.args.field.now in
+    count_from_yields_List c.take_while.result _ c.count.ensures.ran (YieldsList-from_take_while _ is_ascii_digit (YieldsList-from_take 7 (YieldsList-from_slice xs (cc)) (cc)) c.take_while.ensures.closure c.take_while.ensures.done (λ x b q k. search (rules, tests)))
+    ∙ length-prefix_len is_ascii_digit (take 7 xs)
+    ∙ sym (length_digits xs (sym c.if-starts_with.ensures.value))

@@ -1,27 +1,20 @@
-use Rattle.std.proofs.Common.{◌≡◌, ℕ, ◌+◌, ◌<◌, ◌≤◌, Bool, false, ◌&&◌, ◌||◌, eqb, List, length, get_or, drop, sym, ◌∙◌, arith}
-use Rattle.std.proofs.lemmas.List.{at_drop_more, at_drop_all}
+use Rattle.std.proofs.Common.{◌≡◌, ℕ, Bool, eqb, leb, List, refl, ap, ◌∙◌, ◌||◌, ◌&&◌, arith, rules, tests}
+use Rattle.std.specs.List.{list_all}
+use Rattle.std.proofs.lemmas.Iterator.{YieldsList-from_slice}
+use Rattle.std.proofs.lemmas.Iterator.Search.{all_from_yields_List}
+use Rattle.std.proofs.lemmas.List.Recursion.{same_from_clauses}
 use Rattle.trial.specs.Answers.{all_marks}
 use Rattle.trial.proofs.begin.all_marks.Goals as goal
 
--- the next byte and those after it
-marks_more : (bs : List ℕ) (i : ℕ) → i < length bs → all_marks (drop i bs) ≡ ((eqb (get_or bs i 0) 0 || eqb (get_or bs i 0) 1) && all_marks (drop (i + 1) bs))
-marks_more bs i h = at_drop_more all_marks bs i 0 h
+-- a byte is a mark if it is at most 1
+small : (b : ℕ) → leb b 1 ≡ (eqb b 0 || eqb b 1)
+small b = grind arith
 
--- a byte above 1 is no mark
-not_mark : (b : ℕ) (rest : Bool) → 1 < b → ((eqb b 0 || eqb b 1) && rest) ≡ false
-not_mark b rest h = grind arith
-
--- one of at most 1 is a mark
-mark : (b : ℕ) (rest : Bool) → b ≤ 1 → ((eqb b 0 || eqb b 1) && rest) ≡ rest
-mark b rest h = grind arith
-
-pub returns-then-byte-gt1 : goal.returns-then-byte-gt1
-returns-then-byte-gt1 c =
-    sym (sym c.loop-byte.invariant ∙ marks_more c.args.bytes.now c.loop-byte.byte-index c.loop-byte-test.true ∙ not_mark _ _ c.if-byte-gt1.true)
-
-pub loop-byte-preserved : goal.loop-byte-preserved
-loop-byte-preserved c =
-    sym (marks_more c.args.bytes.now c.loop-byte.byte-index c.loop-byte-test.true ∙ mark _ _ c.if-byte-gt1.false) ∙ c.loop-byte.invariant
+-- so all are marks if all are at most 1
+all_small : (bs : List ℕ) → list_all (λ b. leb b 1) bs ≡ all_marks bs
+all_small = same_from_clauses (list_all (λ b. leb b 1)) all_marks (λ b rest. (eqb b 0 || eqb b 1) && rest) refl (λ b bs. ap (λ (x : Bool). x && list_all (λ a. leb a 1) bs) (small b)) (λ _ _. refl)
 
 pub returns : goal.returns
-returns c = sym (at_drop_all all_marks c.args.bytes.now c.loop-byte.byte-index c.loop-byte-test.false) ∙ c.loop-byte.invariant
+returns c =
+    let bytes = c.args.bytes.now in
+    all_from_yields_List (λ b. leb b 1) _ _ _ c.all.ensures.ran (YieldsList-from_slice bytes cc) (λ x b q k. search (rules, tests)) ∙ all_small bytes

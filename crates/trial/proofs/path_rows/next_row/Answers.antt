@@ -2,12 +2,13 @@ use Rattle.std.proofs.Common.{length, take, ap, ◌∙◌, arith}
 use Rattle.theory.specs.Ends.{next_lower, next_upper}
 use Rattle.theory.specs.Mixes.{mix_up}
 use Rattle.theory.proofs.Alike.{next_alike}
-use Rattle.rules.specs.Parts.{part_of, units_of, prefers_number}
-use Rattle.rules.specs.PartsLemmas.{numbers_up}
-use Rattle.trial.specs.Aims.{preference_of}
+use Rattle.rules.specs.declared.rounding.Rounding.TheVariants.{Down, Up}
+use Rattle.rules.specs.Parts.{part_of, prefers_number}
+use Rattle.rules.specs.PartsLemmas.{numbers_lawful}
+use Rattle.trial.specs.Aims.{preference_of, aim_for}
 use Rattle.trial.specs.Queries.{marked}
 use Rattle.trial.specs.Rows.{sets}
-use Rattle.trial.proofs.PathRows.{marked_front, down_units, up_units, row_read}
+use Rattle.trial.proofs.PathRows.{marked_front, ends_units, row_read}
 use Rattle.trial.proofs.path_rows.next_row.Goals as goal
 
 pub returns : goal.returns
@@ -17,14 +18,15 @@ returns g c =
     let l = g.S.Source.lawful x in
     let part = c.args.part.now in
     let v = sets part in
-    let p = c.preference-preference.result in
-    let marks = c.possible_marks-possible.result in
+    let p = preference_of (aim_for c.args.threshold.comparison) in
+    let marks = c.possible_marks-possible.result.values in
     let possible = marked (take (length part) marks) in
     let long = c.requires.part_long in
     let d = part_of 0 in
-    row_read m.states c.args.comparison c.args.bound p (c.preference-preference.ensures ∙ ap preference_of c.of.ensures) d c.ends_after-lower.result c.ends_after-upper.result
+    -- the row is read off the lower ends over what is sure, and the upper ones over what is possible
+    row_read m.states c.args.threshold.comparison c.args.threshold.bound d c.ends_after-lower.result.values c.ends_after-upper.result.values
     (λ q. next_lower q v.sure m) (λ q. next_upper q v.possible m)
-    (λ s h. ap units_of (c.ends_after-lower.ensures.ends d s h) ∙ down_units p m l v.sure 1 s h)
-    (λ s h. ap units_of (c.ends_after-upper.ensures.ends d s h) ∙ up_units p m l possible 1 s h
-    ∙ next_alike m l s h (prefers_number p) mix_up (numbers_up p) possible v.possible (λ t q. marked_front (length part) marks v.possible c.possible_marks-possible.ensures.front t (omega arith)))
+    (λ s h. ends_units c.rule.result Down p c.rule.ensures.rounding (c.rule.ensures.preference ∙ ap preference_of c.from-aim.ensures) m l v.sure 1 s h _ (c.ends_after-lower.ensures d s h))
+    (λ s h. ends_units c.rule-2.result Up p c.rule-2.ensures.rounding (c.rule-2.ensures.preference ∙ ap preference_of c.from-aim.ensures) m l possible 1 s h _ (c.ends_after-upper.ensures d s h)
+    ∙ next_alike m l s h (prefers_number p) mix_up (numbers_lawful Up p) possible v.possible (λ t q. marked_front (length part) marks v.possible c.possible_marks-possible.ensures t (omega arith)))
     c.read_row.new.row (length c.args.row.now) c.requires.row_long (c.read_row.ensures d)

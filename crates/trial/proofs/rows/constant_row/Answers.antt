@@ -1,10 +1,15 @@
-use Rattle.std.proofs.Common.{length, arith}
-use Rattle.theory.specs.Verdicts.{known}
-use Rattle.trial.proofs.Bytes.{written_more, written_all}
+use Rattle.std.proofs.Common.{ℕ, length, replicate, ap, ◌∙◌}
+use Rattle.std.specs.List.{range_with_len}
+use Rattle.std.proofs.lemmas.List.FromFn.{length-range_with_len}
+use Rattle.std.proofs.lemmas.Simd.{splat_is_map}
+use Rattle.trial.specs.VerdictBytes.{verdict_number, verdict_by}
 use Rattle.trial.proofs.rows.constant_row.Goals as goal
 
-pub loop-state-preserved : goal.loop-state-preserved
-loop-state-preserved c = written_more (known (λ _. c.args.holds)) c.loop-state.row c.loop-state.state c.loop-state.invariant c.verdict_byte.result (omega arith) c.verdict_byte.ensures
-
 pub returns : goal.returns
-returns c = written_all (known (λ _. c.args.holds)) c.loop-state.row c.loop-state.state c.loop-state.invariant (length c.args.row.now) (omega arith) c.loop-state-test.false
+returns c =
+    let n = length c.args.row.now in
+    let holds = c.args.holds in
+    -- the row has one byte n times, as a map that gives it for each state does
+    c.fill.ensures.after (λ y e. e)
+    ∙ ap (λ (b : ℕ). replicate n b) (c.number.ensures ∙ ap verdict_number c.by.ensures)
+    ∙ splat_is_map (range_with_len 0 n) n (verdict_number (verdict_by holds holds)) (length-range_with_len 0 n)

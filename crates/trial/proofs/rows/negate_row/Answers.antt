@@ -1,8 +1,8 @@
-use Rattle.std.proofs.Common.{length, arith}
+use Rattle.std.proofs.Common.{rules}
 use Rattle.theory.specs.Verdicts.{negated}
 use Rattle.trial.specs.Rows.{sets}
-use Rattle.trial.proofs.Bytes.{written_all}
+use Rattle.trial.proofs.Bytes.{row_written}
 use Rattle.trial.proofs.rows.negate_row.Goals as goal
 
 pub returns : goal.returns
-returns c = written_all (negated (sets c.args.part.now)) c.loop-state.row c.loop-state.state c.loop-state.invariant (length c.args.row.now) (omega arith) c.loop-state-test.false
+returns c = row_written (negated (sets c.args.part.now)) _ _ c.write_row.ensures.long (λ s h. let made = c.write_row.ensures.written s h in search rules)

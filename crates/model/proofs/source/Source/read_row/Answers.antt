@@ -1,14 +1,18 @@
-use Rattle.std.proofs.Common.{rules}
+use Rattle.std.proofs.Common.{◌<◌, length, arith, length-take}
+use Rattle.model.specs.declared.branch.Branch.{Branch}
 use Rattle.model.specs.Mdp.{row, no_branch}
-use Rattle.model.proofs.Copies.{copy_more, copy_all}
+use Rattle.model.proofs.Copies.{copy_more, copy_front}
 use Rattle.model.proofs.source.Source.read_row.Goals as goal
 
+-- branch i is copied to place i of the front
 pub loop-i-preserved : goal.loop-i-preserved
 loop-i-preserved g c =
     let r = row (g.Self.Source.model c.args.self.now) c.args.state c.args.choice in
-    copy_more c.args.into.now r c.loop-i.into c.loop-i.i no_branch c.branch-into.result (search rules) (search rules) c.loop-i.invariant c.branch-into.ensures
+    let there : c.loop-i.i < length r = omega (arith, length-take {A = Branch}) in
+    copy_more _ r c.loop-i.branch-items c.loop-i.i no_branch c.branch-branch.result there c.loop-i-test.true c.loop-i.invariant c.branch-branch.ensures
 
+-- behind the front, the slice is as it was
 pub returns : goal.returns
 returns g c =
     let r = row (g.Self.Source.model c.args.self.now) c.args.state c.args.choice in
-    record { count = c.branches-count.ensures; written = copy_all c.args.into.now r c.loop-i.into c.loop-i.i (search rules) c.loop-i.invariant }
+    record { count = c.branches-count.ensures; written = copy_front c.args.into.now r c.loop-i.branch-items c.loop-i.i c.min-room.result (omega arith) (omega arith) c.loop-i.invariant }

@@ -1,46 +1,31 @@
-use Rattle.std.proofs.Common.{◌≡◌, ℕ, ◌+◌, ◌<◌, Bool, false, ◌||◌, List, length, get_or, drop, sym, ap, ◌∙◌, rules}
-use Rattle.std.proofs.lemmas.List.{at_drop_more, at_drop_all, get_or_default}
-use Rattle.std.proofs.lemmas.Bool.{or_left}
-use Rattle.model.specs.Mdp.{Row, no_branch}
+use Rattle.std.proofs.Common.{◌≡◌, ℕ, ◌<◌, Bool, false, List, [], ◌∷◌, length, get_or, refl, ◌∙◌, ◌+◌, rules, tests}
+use Rattle.std.specs.List.{list_any}
+use Rattle.std.proofs.lemmas.List.{get_or_default}
+use Rattle.std.proofs.lemmas.Iterator.{YieldsList-from_slice}
+use Rattle.std.proofs.lemmas.Iterator.Search.{any_from_yields_List}
+use Rattle.std.proofs.lemmas.Iterator.Adapters.{serves_from_places}
+use Rattle.model.specs.Mdp.{Row, Ascends, no_branch}
+use Rattle.model.specs.declared.branch.Branch.{Branch}
 use Rattle.theory.specs.Rules.{valued}
 use Rattle.theory.specs.Mixes.{mix_marks}
 use Rattle.rules.specs.Values.{told}
 use Rattle.rules.proofs.Rows.{row_target}
 use Rattle.rules.proofs.marks.MarksRule.mix.Goals as goal
 
--- the mix of a row of marks
-abbrev marked : ℕ → List Bool → Bool → Row → Bool
-marked u vs d r = mix_marks u (valued (told vs d) r)
+-- some branch of a row is marked if the mix of its marks is yes
+any_marked : (u low : ℕ) (vs : List Bool) (d : Bool) (r : Row) → Ascends (length vs) low r → list_any (λ (b : Branch). get_or vs b.target false) r ≡ mix_marks u (valued (told vs d) r)
+any_marked u low vs d [] a = refl
+any_marked u low vs d (b ∷ bs) a = rw (get_or_default vs b.target false d a.1, any_marked u (b.target + 1) vs d bs a.3)
 
--- it is yes if the first branch is marked, or that of the others is yes
-marked_more : (u : ℕ) (r : Row) (vs : List Bool) (d : Bool) (i : ℕ) → i < length r →
-    marked u vs d (drop i r) ≡ (get_or vs (get_or r i no_branch).target d || marked u vs d (drop (i + 1) r))
-marked_more u r vs d i h = at_drop_more (marked u vs d) r i no_branch h
-
-pub bounds-values-branch : goal.bounds-values-branch
-bounds-values-branch c = search (rules, row_target)
-
-pub returns-then-values-branch : goal.returns-then-values-branch
-returns-then-values-branch c d =
+pub any-requires-clause-callable : goal.any-requires-clause-callable
+any-requires-clause-callable c =
     let row = c.args.row.now in
     let vs = c.args.values.now in
-    let i = c.loop-branch.branch-index in
-    let b = get_or row i no_branch in
-    let t = row_target (length vs) c.args._denominator row i c.requires.lawful c.loop-branch-test.true in
-    let v = get_or_default vs b.target d false t ∙ c.if-values-branch.true in
-    sym (sym (c.loop-branch.invariant d) ∙ marked_more c.args._denominator row vs d i c.loop-branch-test.true ∙ or_left (get_or vs b.target d) _ v)
-
-pub loop-branch-preserved : goal.loop-branch-preserved
-loop-branch-preserved c d =
-    let row = c.args.row.now in
-    let vs = c.args.values.now in
-    let i = c.loop-branch.branch-index in
-    let b = get_or row i no_branch in
-    let rest = marked c.args._denominator vs d (drop (i + 1) row) in
-    let t = row_target (length vs) c.args._denominator row i c.requires.lawful c.loop-branch-test.true in
-    let v = get_or_default vs b.target d false t ∙ c.if-values-branch.false in
-    sym (marked_more c.args._denominator row vs d i c.loop-branch-test.true ∙ ap (λ (x : Bool). x || rest) v) ∙ c.loop-branch.invariant d
+    serves_from_places (YieldsList-from_slice row (cc)) (λ x q e. search rules) (λ x k h e.
+    let bound : x.now.target < length vs = rw (e ∙ get_or_default row k x.now no_branch h) (row_target (length vs) c.args._denominator row k c.requires.lawful h) in
+    search rules)
 
 pub returns : goal.returns
 returns c d =
-    sym (at_drop_all (marked c.args._denominator c.args.values.now d) c.args.row.now c.loop-branch.branch-index c.loop-branch-test.false) ∙ c.loop-branch.invariant d
+    any_from_yields_List (λ (b : Branch). get_or c.args.values.now b.target false) _ _ _ c.any.ensures.ran (YieldsList-from_slice c.args.row.now (cc)) (λ x b q k. search (rules, tests))
+    ∙ any_marked c.args._denominator 0 c.args.values.now d c.args.row.now c.requires.lawful.ascends

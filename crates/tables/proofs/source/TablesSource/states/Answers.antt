@@ -3,4 +3,4 @@ use Rattle.tables.proofs.Spans.{states_count}
 use Rattle.tables.proofs.source.TablesSource.states.Goals as goal
 
 pub returns : goal.returns
-returns c = let e = states_count c.args.self.now.kept in search rules
+returns c = search (rules, states_count)

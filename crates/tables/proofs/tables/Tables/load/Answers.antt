@@ -1,4 +1,4 @@
-use Rattle.std.proofs.Common.{sym, refl, subst, rules}
+use Rattle.std.proofs.Common.{length, sym, refl, ap, subst, rules}
 use Rattle.text_laws.proofs.Complete.{unique}
 use Rattle.flat.specs.Reads.{Holds}
 use Rattle.flat.proofs.Reading.{refused_none}
@@ -17,7 +17,7 @@ returns-in_err-read c =
 pub invariant_of-self-2 : goal.invariant_of-self-2
 invariant_of-self-2 c =
     let h = subst (Holds c.args.text.now) (sym c.swap.ensures.x_after) c.in_ok-read.ensures.1 in
-    record { within = within_keeps _ h.describes.within; long = h.long; rising = h.rising; spanned = h.spanned }
+    record { within = within_keeps _ h.describes.within; long = h.long; rising = h.rising; spanned = h.spanned; sized = ap length h.describes.is }
 
 pub returns : goal.returns
 returns c =

@@ -1,45 +1,43 @@
-use Rattle.std.proofs.Common.{◌+◌, ◌≤◌, refl, ◌∙◌, arith}
-use Rattle.std.proofs.lemmas.Bool.{cond-true}
+use Rattle.std.proofs.Common.{◌≡◌, Some, sym, rules}
 use Rattle.model.specs.HoldLaws.{hold_lawful}
-use Rattle.theory.specs.Ends.{held, stops, start}
-use Rattle.theory.specs.Mixes.{mix_down, mix_up}
-use Rattle.rules.specs.PartsLemmas.{numbers_down, numbers_up, down_rounds, up_rounds}
-use Rattle.rounds.specs.Refusals.{most_rounds}
 use Rattle.layers.specs.Holds.{held_model}
+use Rattle.theory.specs.Ends.{held, stops, start}
+use Rattle.rules.specs.declared.rounding.Rounding.TheVariants.{Down, Up}
 use Rattle.trial.specs.Aims.{preference_of}
 use Rattle.trial.specs.Queries.{marked}
-use Rattle.trial.specs.Keeping.{query_in, standing}
-use Rattle.trial.proofs.Queries.{end_more, stands_query, kept_query, query_kept, advance_answered, advance_query, not_refused}
+use Rattle.trial.specs.Keeping.{query_in}
+use Rattle.trial.proofs.Queries.{end_more, query_kept}
+use Rattle.trial.proofs.Trials.{trial_same}
 use Rattle.trial.proofs.trial.Trial.advance.Goals as goal
 
-pub returns : goal.returns
-returns g c =
-    let t = c.args.self.now.state in
-    let x = c.args.self.now.layer.below.now in
+pub returns-in_err-query-clause-refused : goal.returns-in_err-query-clause-refused
+returns-in_err-query-clause-refused g c = λ e h. trial_same _ _ c.args.self.now.layer _ _ _ _ cc
+
+pub returns-then-count-query-clause-refused : goal.returns-then-count-query-clause-refused
+returns-then-count-query-clause-refused g c =
+    let stands : c.args.self.now.query ≡ Some c.in_ok-query.query.now = search rules in
+    λ e h. trial_same _ _ c.args.self.now.layer _ _ _ _ (sym stands)
+
+pub invariant_of-self-2 : goal.invariant_of-self-2
+invariant_of-self-2 g c =
+    let trial = c.args.self.now in
+    let x = trial.layer.below.now in
     let m = g.S.Source.model x in
-    let l = g.S.Source.lawful x in
-    let flags = c.args.self.now.layer.held in
+    let flags = trial.layer.held in
+    let t = c.in_ok-query.query.now in
+    let stands : trial.query ≡ Some t = search rules in
+    let keeps = trial.kept t stands in
     let q = query_in m.states t in
-    let stands = c.if-not-self.false in
-    let keeps = kept_query m flags t stands c.requires.kept in
     let left = marked q.left in
     let right = marked q.right in
-    let lawful = hold_lawful (stops left right) m l in
-    let k = c.args.count in
-    let room = c.if-count-self.false in
-    let short = t.few in
-    let few : q.rounds + k ≤ most_rounds = omega arith in
+    let lawful = hold_lawful (stops left right) m (g.S.Source.lawful x) in
     let p = preference_of t.aim in
-    let p' = c.preference-preference.result in
-    let e = c.preference-preference.ensures in
+    let k = c.args.count in
     record {
-      answer = advance_answered (standing m.states t) q (stands_query m flags t stands) k few;
-      query = cond-true t.standing _ _ stands ∙ advance_query (standing m.states t) q (stands_query m flags t stands) k few;
-      source = refl;
-      kept = query_kept m flags _ stands (record {
+      -- both ends have k rounds more over the held layer
+      kept = query_kept m flags _ (record {
         layer = keeps.layer;
-        lower = λ d. end_more mix_down numbers_down down_rounds p p' e (held left right m) (held_model m flags) lawful keeps.layer (start right) t.rounds k t.lower c.advance_front.new.values d (keeps.lower d) (c.advance_front.ensures d);
-        upper = λ d. end_more mix_up numbers_up up_rounds p p' e (held left right m) (held_model m flags) lawful keeps.layer (start right) t.rounds k t.upper c.advance_front-2.new.values d (keeps.upper d) (c.advance_front-2.ensures d);
+        lower = λ d. end_more Down p c.rule-down.result c.rule-down.ensures.rounding c.rule-down.ensures.preference (held left right m) (held_model m flags) lawful keeps.layer (start right) t.rounds k t.lower.values c.advance.new.ends.values d (keeps.lower d) (c.advance.ensures d);
+        upper = λ d. end_more Up p c.rule-up.result c.rule-up.ensures.rounding c.rule-up.ensures.preference (held left right m) (held_model m flags) lawful keeps.layer (start right) t.rounds k t.upper.values c.advance-2.new.ends.values d (keeps.upper d) (c.advance-2.ensures d);
       });
-      refused = λ f h. not_refused f h;
     }

@@ -1,20 +1,24 @@
-use Rattle.std.proofs.Common.{◌<◌, arith}
+use Rattle.std.proofs.Common.{◌≡◌, ◌<◌, Some, ap, ◌∙◌, arith, rules}
+use Rattle.rules.specs.Parts.{part_of, units_of}
 use Rattle.trial.specs.Keeping.{query_in, standing}
-use Rattle.trial.proofs.Queries.{stands_query, kept_query, ends_answered, ends_mean}
+use Rattle.trial.proofs.Queries.{ends_answered, ends_mean}
 use Rattle.trial.proofs.trial.Trial.ends.Goals as goal
 
 pub returns : goal.returns
 returns g c =
-    let t = c.args.self.now.state in
-    let x = c.args.self.now.layer.below.now in
+    let trial = c.args.self.now in
+    let x = trial.layer.below.now in
     let m = g.S.Source.model x in
-    let flags = c.args.self.now.layer.held in
-    let stands = c.if-not-self.false in
-    let keeps = kept_query m flags t stands c.requires.kept in
+    let t = c.in_ok-query.query.now in
+    let stands : trial.query ≡ Some t = search rules in
+    let keeps = trial.kept t stands in
     let states = c.states.ensures in
     let under = c.if-state-states.false in
     let there : c.args.state < m.states = omega arith in
+    let d = part_of 0 in
     record {
-      answer = ends_answered m (standing m.states t) (query_in m.states t) (stands_query m flags t stands) c.args.state there _ _ (keeps.lower _ c.args.state there) (keeps.upper _ c.args.state there);
-      meaning = ends_mean m (g.S.Source.lawful x) (standing m.states t) c.args.state;
+      -- both ends that are kept are the query's
+      answer = ends_answered m (standing m.states trial.query) (query_in m.states t) (ap (standing m.states) stands) c.args.state there c.at.result c.at-2.result
+          (ap units_of (c.at.ensures d) ∙ keeps.lower d c.args.state there) (ap units_of (c.at-2.ensures d) ∙ keeps.upper d c.args.state there);
+      meaning = ends_mean m (g.S.Source.lawful x) (standing m.states trial.query) c.args.state;
     }

@@ -1,0 +1,51 @@
+ghost use Rattle.std.specs.Prelude.{◌≡◌, ◌≤◌, length};
+ghost use Rattle.formula.specs.Tokens.{has, JustReads, WordReads};
+
+// A place in a text: that of one of its bytes, or its end. Readers answer bare places, which faults tell: a cursor in
+// each answer would need a proof at each use that its text is still the same, so one is made where reading goes on.
+#[derive(Clone, Copy)]
+pub(crate) struct Cursor<'a> {
+    pub text: &'a [u8],
+    pub at: usize,
+    ghost inside: { at ≤ length text.now },
+}
+
+impl Cursor<'_> {
+    // Does the byte stand here?
+    pub(crate) fn stands(self, byte: u8) -> bool
+        ensures { result ≡ has self.entry.text.now self.entry.at byte }
+    {
+        self.text.get(self.at).is_some_and(|here| *here == byte)
+    }
+
+    // The place after the byte, if it stands here; else this place.
+    pub(crate) fn expect(self, byte: u8) -> Result<usize, usize>
+        ensures { JustReads byte self.entry.text.now self.entry.at result }
+    {
+        if self.stands(byte) {
+            Ok(self.at + 1)
+        } else {
+            Err(self.at)
+        }
+    }
+
+    // The same at another place of the text.
+    pub(crate) fn expect_at(self, at: usize, byte: u8) -> Result<usize, usize>
+        requires { at ≤ length self.text.now }
+        ensures { JustReads byte self.entry.text.now at result }
+    {
+        let text = self.text;
+        Cursor { text, at }.expect(byte)
+    }
+
+    // The place after the word, if it stands here; else the place where it breaks off.
+    pub(crate) fn expect_all(self, word: &[u8]) -> Result<usize, usize>
+        ensures { WordReads word.now self.entry.text.now self.entry.at result }
+    {
+        let Cursor { text, mut at } = self;
+        for byte in word {
+            at = Cursor { text, at }.expect(*byte)?;
+        }
+        Ok(at)
+    }
+}

@@ -1,9 +1,0 @@
-use Rattle.std.proofs.Common.{string_bytes}
-use Rattle.model.specs.Mdp.{row}
-use Rattle.printing.proofs.Laying.{Left}
-use Rattle.printing.proofs.lay.lay_choice.Given as goal
-
-abbrev pub invariant-loop-index : goal.invariant-loop-index
-invariant-loop-index g l =
-    let layout = g.L.Style.layout l.style in
-    Left layout.branch (layout.choice l.choice) (row (g.S.Source.model l.source) l.state l.choice) (string_bytes l.out) l.index

@@ -1,0 +1,39 @@
+ghost use Rattle.std.specs.Prelude.{◌≡◌, ℕ, ◌<◌, false, not, ◌||◌, length, ◌==◌, slice_index_or};
+ghost use Rattle.theory.specs.Ends.{stops};
+ghost use Rattle.trial.specs.Queries.{marked};
+
+use layers::hold::Hold;
+use model::source::Source;
+
+// "left until right" over a source: the marks of both sets, with a byte for each state.
+#[derive(Drop)]
+pub(crate) struct Until<'s, 'm, S: Source> {
+    pub(crate) source: &'s S,
+    pub(crate) left: &'m [u8],
+    pub(crate) right: &'m [u8],
+    ghost left_long: { length left.now ≡ (S.Source.model source.now).states },
+    ghost right_long: { length right.now ≡ (S.Source.model source.now).states },
+}
+
+// Is an until settled at a state with these marks? It is met in right, and fails outside left.
+fn settled(left: u8, right: u8) -> bool
+    ensures { result ≡ (right == 1 || not (left == 1)) }
+{
+    right == 1 || left != 1
+}
+
+impl<'s, 'm, S: Source> Until<'s, 'm, S> {
+    // A layer over the source that holds each state in right and each that is not in left.
+    pub(crate) fn layer(&self) -> Hold<&'s S>
+        ensures source { result.below.now ≡ self.now.source.now }
+        ensures held { (s : ℕ) → s < (S.Source.model self.now.source.now).states → slice_index_or result.held s false ≡ stops (marked self.now.left.now) (marked self.now.right.now) s }
+    {
+        let mut layer = Hold::over(self.source);
+        for (state, left) in self.left.iter().enumerate() {
+            if settled(*left, self.right[state]) {
+                let _ = layer.hold(state);
+            }
+        }
+        layer
+    }
+}
