@@ -89,7 +89,7 @@ show("2 twins (bodies of two lines and more with one shape)", [", ".join(f"{f.wh
 
 show("3 loops that count by hand", matching(r"\bwhile |\bloop \{|for \w+ in [^{]*\.\.|\.enumerate\(\)|\b\w+ \+= 1;"))
 
-by_hand = r"^(number|new|of|read|spells|alike|prefers\w*|lesser|with_number|preference|comparison_number|entry|meant)$|_(text|words|number)$"
+by_hand = r"^(number|new|of|read|spells|alike|prefers\w*|lesser|preference|comparison_number|entry|meant)$|_(text|words|number)$"
 show("4 comparing, converting and printing in functions of one's own", [f"{f.where}: {f.name}" for f in plain if re.search(by_hand, f.name)])
 
 repeated, together = [], []

@@ -1,7 +1,7 @@
 use model::source::Source;
 use std::alloc::{AllocError, Global};
 use tables::tables::Tables;
-use text::fault::FileFault;
+use text::fault::{FieldPlace, FileFault};
 
 // How many branches all choices of a state have.
 fn branches(source: &Tables, state: usize) -> usize {
@@ -30,7 +30,7 @@ pub(crate) fn refused(heap: Global, fault: FileFault) -> Result<String, AllocErr
     let number = fault.number();
     let line = fault.line();
     match fault.field() {
-        Some((field, length)) => format!(in heap;
+        Some(FieldPlace { field, length }) => format!(in heap;
             "refused {number} line {line} field {field} length {length}"
         ),
         None => format!(in heap; "refused {number} line {line}"),

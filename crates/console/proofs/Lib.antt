@@ -1,2 +1,3 @@
+pub mod Ladders
 pub mod Returning
 pub mod Spellings

@@ -20,14 +20,16 @@ pub struct LadderNumbers {
     pub weight: u32,
 }
 
-// How a model is named: by the path of its file, or as a ladder by its three numbers.
+// How a model is named: by the path of its file, or as a ladder by its three numbers. The path itself stays among the
+// words of the command line: a clause sees a reference as more than the bytes behind it, and so could not say of a name
+// that holds one that it equals the name that a definition gives.
 #[derive(Clone, Copy, PartialEq, Eq, Debug)]
 pub enum ModelName {
     File,
     Ladder(LadderNumbers),
 }
 
-// What is wrong with the words of the command line.
+// What is wrong with the words of the command line. The wrong word stays among them, for the reason that `ModelName` has.
 #[derive(Clone, Copy, PartialEq, Eq, Debug)]
 pub enum Mistake {
     NoCommand,

@@ -1,5 +1,5 @@
 ghost use Rattle.std.specs.Prelude.{◌≡◌, map, IfOk, string_bytes};
-ghost use Rattle.console.specs.Helps.{help_text, mistaken, before_word, after_word, mistake_text, no_file_text};
+ghost use Rattle.console.specs.Helps.{help_text, mistake_text, no_file_text};
 
 use crate::command::Mistake;
 use crate::parse::word_at;
@@ -36,44 +36,7 @@ pub fn help_text() -> &'static str
     )
 }
 
-// Which word of the command line the sentence on a mistake names.
-fn mistaken(mistake: Mistake) -> usize
-    ensures { result ≡ mistaken mistake }
-{
-    match mistake {
-        Mistake::NoLadder => 1,
-        Mistake::NoCommand | Mistake::NoSuchCommand | Mistake::NoModel | Mistake::TooMany => 0,
-    }
-}
-
-// What the sentence says before that word.
-fn before_word(mistake: Mistake) -> &'static str
-    ensures { result.now ≡ before_word mistake }
-{
-    match mistake {
-        Mistake::NoCommand => "kavzhubo: there is no command",
-        Mistake::NoSuchCommand => "kavzhubo: there is no command ",
-        Mistake::NoModel =>
-            "kavzhubo: which model? Write its path, or ladder:RUNGS:DENOMINATOR:WEIGHT, after ",
-        Mistake::TooMany => "kavzhubo: there are too many words after ",
-        Mistake::NoLadder => "kavzhubo: this names no ladder: ",
-    }
-}
-
-// And after it.
-fn after_word(mistake: Mistake) -> &'static str
-    ensures { result.now ≡ after_word mistake }
-{
-    match mistake {
-        Mistake::NoCommand | Mistake::NoSuchCommand => "; kavzhubo help lists the commands\n",
-        Mistake::NoModel => "\n",
-        Mistake::TooMany => "; kavzhubo help says what may follow it\n",
-        Mistake::NoLadder =>
-            "; write ladder:RUNGS:DENOMINATOR:WEIGHT with three numbers of one to seven digits, as ladder:2:4:3\n",
-    }
-}
-
-// What is said of a wrong command line.
+// What is said of a wrong command line. The word of the command is empty where there is none.
 pub(crate) fn mistake_text(
     heap: Global,
     mistake: Mistake,
@@ -81,10 +44,24 @@ pub(crate) fn mistake_text(
 ) -> Result<String, AllocError>
     ensures { IfOk result (λ s. string_bytes s ≡ mistake_text mistake (map string_bytes args.now)) }
 {
-    let before = before_word(mistake);
-    let word = word_at(args, mistaken(mistake));
-    let after = after_word(mistake);
-    format!(in heap; "{before}{word}{after}")
+    let (command, model) = (word_at(args, 0), word_at(args, 1));
+    match mistake {
+        Mistake::NoCommand => format!(in heap;
+            "kavzhubo: there is no command{command}; kavzhubo help lists the commands\n",
+        ),
+        Mistake::NoSuchCommand => format!(in heap;
+            "kavzhubo: there is no command {command}; kavzhubo help lists the commands\n",
+        ),
+        Mistake::NoModel => format!(in heap;
+            "kavzhubo: which model? Write its path, or ladder:RUNGS:DENOMINATOR:WEIGHT, after {command}\n",
+        ),
+        Mistake::TooMany => format!(in heap;
+            "kavzhubo: there are too many words after {command}; kavzhubo help says what may follow it\n",
+        ),
+        Mistake::NoLadder => format!(in heap;
+            "kavzhubo: this names no ladder: {model}; write ladder:RUNGS:DENOMINATOR:WEIGHT with three numbers of one to seven digits, as ladder:2:4:3\n",
+        ),
+    }
 }
 
 // What is said where no file can be read at a path.

@@ -1,5 +1,5 @@
-ghost use Rattle.std.specs.Prelude.{◌≡◌, map, string_bytes};
-ghost use Rattle.console.specs.Commands.{verb_of, names_ladder, part, ladder_named, model_named, word_at, command_of};
+ghost use Rattle.std.specs.Prelude.{◌≡◌, ◌++◌, codes, map, string_bytes};
+ghost use Rattle.console.specs.Commands.{verb_of, part, ladder_named, model_named, word_at, command_of};
 
 use crate::command::{Command, Form, LadderNumbers, Mistake, ModelName, Verb};
 use text::cut::{piece, piece_count};
@@ -17,13 +17,6 @@ fn verb(word: &[u8]) -> Option<Verb>
     }
 }
 
-// Is a model's name that of a ladder?
-fn names_ladder(name: &[u8]) -> bool
-    ensures { result ≡ names_ladder name.now }
-{
-    piece(name, b':', 0) == b"ladder".as_slice() && piece_count(name, b':') > 1
-}
-
 // The number that a part of a name writes, if it is one.
 fn part(name: &[u8], index: usize) -> Option<u32>
     ensures { result ≡ part index name.now }
@@ -31,17 +24,18 @@ fn part(name: &[u8], index: usize) -> Option<u32>
     number(piece(name, b':', index), index).ok()
 }
 
-// The ladder that a name gives, if it is `ladder:` and three numbers.
-fn ladder_named(name: &[u8]) -> Option<ModelName>
-    ensures { result ≡ ladder_named name.now }
+// The ladder that `ladder:` and these numbers name, if they are three. The parts are counted and each is cut for itself:
+// `next` after `next` on one `split` has seven ways out, and each would want a proof of its own of which parts are left.
+fn ladder_named(numbers: &[u8]) -> Option<ModelName>
+    ensures { result ≡ ladder_named (codes "ladder:" ++ numbers.now) }
 {
-    if piece_count(name, b':') != 4 {
+    if piece_count(numbers, b':') != 3 {
         return None;
     }
     Some(ModelName::Ladder(LadderNumbers {
-        rungs: part(name, 1)? as usize,
-        denominator: part(name, 2)?,
-        weight: part(name, 3)?,
+        rungs: part(numbers, 0)? as usize,
+        denominator: part(numbers, 1)?,
+        weight: part(numbers, 2)?,
     }))
 }
 
@@ -49,10 +43,9 @@ fn ladder_named(name: &[u8]) -> Option<ModelName>
 fn model_named(name: &[u8]) -> Option<ModelName>
     ensures { result ≡ model_named name.now }
 {
-    if names_ladder(name) {
-        ladder_named(name)
-    } else {
-        Some(ModelName::File)
+    match name.strip_prefix(b"ladder:") {
+        Some(numbers) => ladder_named(numbers),
+        None => Some(ModelName::File),
     }
 }
 

@@ -1,58 +1,69 @@
--- The bytes that an escaped text stands for: its repeats are written out first, then each escape is put for its byte.
-use Rattle.std.specs.Prelude.{ℕ, ◌+◌, ◌-◌, ◌*◌, ◌^◌, min, nat_le, List, [], ◌∷◌, ◌++◌, ◌==◌, ◌&&◌, if◌then◌else◌}
-use Rattle.std.specs.List.{repeat}
+-- The bytes that an escaped text stands for: it is cut at each `{`, a part at its first `}` into a repetition and a
+-- piece, a repetition at its first `:` into a count and a piece, and a piece at each backslash.
+use Rattle.std.specs.Prelude.{ℕ, ◌+◌, ◌-◌, ◌*◌, ◌^◌, nat_le, nat_lt, Bool, List, [], ◌∷◌, ◌++◌, ◌==◌, ◌&&◌, if◌then◌else◌}
+use Rattle.std.specs.List.{list_any, before_first, after_first, slice_split, flat_map, repeat}
+use Rattle.std.specs.Str.{all_ascii_digits}
+use Rattle.std.specs.Str.Parse.{without_leading_plus, digits_value}
 
--- a count with one digit more, 2^64 - 1 at the most
-abbrev pub counted : ℕ → ℕ → ℕ
-counted n digit = min (n * 10 + (digit - 48)) (2 ^ 64 - 1)
+-- the parts of a text, cut at each byte c
+abbrev pub parts : ℕ → List ℕ → List (List ℕ)
+parts c text = slice_split (λ b. b == c) text
 
--- a text with its repeats written out: `{` (123), a count, `:` (58), a piece and `}` (125) stand for the piece, so many
--- times; of a repeat that does not end nothing is written
-abbrev mutual
-  pub repeated : List ℕ → List ℕ
-  repeated [] = []
-  repeated (b ∷ rest) = if b == 123 then from_count 0 rest else b ∷ repeated rest
+-- Is there a byte c in the text?
+abbrev pub has : ℕ → List ℕ → Bool
+has c text = list_any (λ b. b == c) text
 
-  -- the rest of it from inside a count, whose digits so far write n
-  pub from_count : ℕ → List ℕ → List ℕ
-  from_count n [] = []
-  from_count n (b ∷ rest) = if b == 58 then from_piece n [] rest else from_count (counted n b) rest
+-- what stands before the first byte c
+abbrev pub before : ℕ → List ℕ → List ℕ
+before c text = before_first (λ b. b == c) text
 
-  -- the rest of it from inside a piece, which is w so far
-  pub from_piece : ℕ → List ℕ → List ℕ → List ℕ
-  from_piece n w [] = []
-  from_piece n w (b ∷ rest) = if b == 125 then repeat n w ++ repeated rest else from_piece n (w ++ (b ∷ [])) rest
+-- what stands behind the first byte c
+abbrev pub behind : ℕ → List ℕ → List ℕ
+behind c text = after_first (λ b. b == c) text
 
 -- the value of a hexadecimal digit, 0 of any other byte
 abbrev pub hex_digit : ℕ → ℕ
 hex_digit b = if nat_le 48 b && nat_le b 57 then b - 48 else if nat_le 97 b && nat_le b 102 then b - 97 + 10 else 0
 
--- the byte that a letter behind a backslash names: n, t and r name LF, tab and CR, any other byte itself
-abbrev pub named : ℕ → ℕ
-named b = if b == 110 then 10 else if b == 116 then 9 else if b == 114 then 13 else b
+-- what an `x` (120) and the bytes behind it stand for, after a backslash: the first two, as digits, for one byte; where
+-- there are no two, the `x` stands for itself
+abbrev pub hex_escape : List ℕ → List ℕ
+hex_escape [] = 120 ∷ []
+hex_escape (b ∷ []) = 120 ∷ b ∷ []
+hex_escape (high ∷ low ∷ rest) = (hex_digit high * 16 + hex_digit low) ∷ rest
 
--- a text with a byte for each escape: a backslash (92) and a letter stand for the byte that the letter names, a
--- backslash, `x` (120) and two digits for the byte with that value; an escape that does not end stands for nothing
-abbrev mutual
-  pub unescaped : List ℕ → List ℕ
-  unescaped [] = []
-  unescaped (b ∷ rest) = if b == 92 then from_backslash rest else b ∷ unescaped rest
+-- what a part behind a backslash stands for: an n (110), t (116) or r (114) at its front for LF, tab or CR, an x (120)
+-- for a byte in hexadecimal digits; any other part stands for itself
+abbrev pub escape : List ℕ → List ℕ
+escape [] = []
+escape (b ∷ rest) =
+    if b == 110 then 10 ∷ rest else if b == 116 then 9 ∷ rest else if b == 114 then 13 ∷ rest else if b == 120 then hex_escape rest else b ∷ rest
 
-  -- the rest of it from behind a backslash
-  pub from_backslash : List ℕ → List ℕ
-  from_backslash [] = []
-  from_backslash (b ∷ rest) = if b == 120 then from_hex rest else named b ∷ unescaped rest
+-- what the parts of a piece stand for: the first for itself, each later one is an escape
+abbrev pub unescaped : List (List ℕ) → List ℕ
+unescaped [] = []
+unescaped (first ∷ later) = first ++ flat_map escape later
 
-  -- the rest of it from behind the `x`
-  pub from_hex : List ℕ → List ℕ
-  from_hex [] = []
-  from_hex (b ∷ rest) = from_high b rest
+-- a piece, cut at each backslash (92)
+abbrev pub piece : List ℕ → List ℕ
+piece text = unescaped (parts 92 text)
 
-  -- the rest of it from behind the first digit, which is h
-  pub from_high : ℕ → List ℕ → List ℕ
-  from_high h [] = []
-  from_high h (b ∷ rest) = (hex_digit h * 16 + hex_digit b) ∷ unescaped rest
+-- the number that decimal digits write, where it is below 2^32; 0 of any other text
+abbrev pub number : List ℕ → ℕ
+number digits = if all_ascii_digits digits && nat_lt (digits_value 10 digits) (2 ^ 32) then digits_value 10 digits else 0
 
--- the bytes that a text stands for
+-- a count: a number, with a plus in front or without
+abbrev pub count : List ℕ → ℕ
+count text = number (without_leading_plus text)
+
+-- a repetition, cut at its first `:` (58): the piece behind it, as often as the count before it says; with no `:` nothing
+abbrev pub repetition : List ℕ → List ℕ
+repetition text = if has 58 text then repeat (count (before 58 text)) (piece (behind 58 text)) else []
+
+-- a part of the text, cut at its first `}` (125): a repetition and then a piece; with no `}` it is a piece
+abbrev pub part : List ℕ → List ℕ
+part text = if has 125 text then repetition (before 125 text) ++ piece (behind 125 text) else piece text
+
+-- the bytes that a text stands for: it is cut at each `{` (123), and what its parts stand for follows one another
 abbrev pub expanded : List ℕ → List ℕ
-expanded text = unescaped (repeated text)
+expanded text = flat_map part (parts 123 text)

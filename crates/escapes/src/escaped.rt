@@ -1,17 +1,7 @@
-ghost use Rattle.std.specs.Prelude.{◌≡◌, ◌≤◌, ◌∷◌, ◌++◌, List, ℕ, IfOk};
-ghost use Rattle.escapes.specs.Escapes.{hex_digit, named, unescaped};
-ghost use Rattle.escapes.specs.States.{from_state};
+ghost use Rattle.std.specs.Prelude.{◌≡◌, ◌≤◌, ◌++◌, IfOk};
+ghost use Rattle.escapes.specs.Escapes.{hex_digit, escape, piece};
 
-use std::alloc::{AllocError, Global};
-
-// What was read of an escape: nothing, its backslash, then its `x`, and then its first digit.
-#[derive(Clone, Copy)]
-pub(crate) enum State {
-    Plain,
-    Backslash,
-    Hex,
-    High(u8),
-}
+use std::alloc::AllocError;
 
 // The value of a hexadecimal digit; 0 for any other byte.
 fn hex_digit(byte: u8) -> u8
@@ -25,43 +15,31 @@ fn hex_digit(byte: u8) -> u8
     }
 }
 
-// The byte that a letter behind a backslash names: n, t and r name LF, tab and CR, any other byte itself.
-fn named(letter: u8) -> u8
-    ensures { result ≡ named letter }
+// Puts what stands behind a backslash at the end of `out`: n, t and r stand for LF, tab and CR, x for two digits.
+fn push_escape(part: &[u8], out: &mut Vec<u8>) -> Result<(), AllocError>
+    ensures { IfOk result (λ _. out.new.items ≡ out.old.items ++ escape part.now) }
 {
-    match letter {
-        b'n' => b'\n',
-        b't' => b'\t',
-        b'r' => b'\r',
-        _ => letter,
-    }
-}
-
-// The bytes of a text, with a byte for each escape.
-pub(crate) fn unescape(heap: Global, text: &[u8]) -> Result<Vec<u8>, AllocError>
-    ensures { IfOk result (λ out. out.items ≡ unescaped text.now) }
-{
-    let mut out = Vec::new(heap);
-    let mut state = State::Plain;
-    for byte in text {
-        state = read(state, *byte, &mut out)?;
-    }
-    Ok(out)
-}
-
-// Reads one byte more, and puts the byte that it stands for, or that the escape which it ends does, at the end of `out`.
-fn read(state: State, byte: u8, out: &mut Vec<u8>) -> Result<State, AllocError>
-    ensures { IfOk result (λ next. (rest : List ℕ) →
-        out.new.items ++ from_state next rest ≡ out.old.items ++ from_state state (byte ∷ rest)) }
-{
-    let found = match (state, byte) {
-        (State::Plain, b'\\') => return Ok(State::Backslash),
-        (State::Plain, _) => byte,
-        (State::Backslash, b'x') => return Ok(State::Hex),
-        (State::Backslash, _) => named(byte),
-        (State::Hex, _) => return Ok(State::High(byte)),
-        (State::High(high), _) => hex_digit(high) * 16 + hex_digit(byte),
+    let (byte, rest) = match part {
+        [b'n', rest @ ..] => (b'\n', rest),
+        [b't', rest @ ..] => (b'\t', rest),
+        [b'r', rest @ ..] => (b'\r', rest),
+        [b'x', high, low, rest @ ..] => (hex_digit(*high) * 16 + hex_digit(*low), rest),
+        _ => return out.extend_from_slice(part),
     };
-    out.push(found)?;
-    Ok(State::Plain)
+    out.push(byte)?;
+    out.extend_from_slice(rest)
+}
+
+// Puts the bytes of a piece at the end of `out`.
+pub(crate) fn push_piece(text: &str, out: &mut Vec<u8>) -> Result<(), AllocError>
+    ensures { IfOk result (λ _. out.new.items ≡ out.old.items ++ piece text.now) }
+{
+    let mut parts = text.split('\\');
+    if let Some(first) = parts.next() {
+        out.extend_from_slice(first.as_bytes())?;
+    }
+    for part in parts {
+        push_escape(part.as_bytes(), out)?;
+    }
+    Ok(())
 }

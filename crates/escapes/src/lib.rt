@@ -10,14 +10,16 @@ mod repeats;
 #[cfg(test)]
 mod tests;
 
-use crate::escaped::unescape;
-use crate::repeats::write_repeats;
+use crate::repeats::push_part;
 use std::alloc::{AllocError, Global};
 
-// The bytes that the text stands for: its repeats are written out first, then each escape is put for its byte.
+// The bytes that the text stands for, in which `{5:x}` stands for xxxxx, and a backslash and a letter for a byte.
 pub fn expand(heap: Global, text: &str) -> Result<Vec<u8>, AllocError>
     ensures { IfOk result (λ bytes. bytes.items ≡ expanded text.now) }
 {
-    let written = write_repeats(heap, text.as_bytes())?;
-    unescape(heap, written.as_slice())
+    let mut out = Vec::new(heap);
+    for part in text.split('{') {
+        push_part(part, &mut out)?;
+    }
+    Ok(out)
 }

@@ -1,65 +1,37 @@
-ghost use Rattle.std.specs.Prelude.{◌≡◌, ◌∷◌, ◌++◌, List, ℕ, IfOk};
-ghost use Rattle.escapes.specs.Escapes.{counted, repeated};
-ghost use Rattle.escapes.specs.States.{from_place};
+ghost use Rattle.std.specs.Prelude.{◌≡◌, ◌++◌, IfOk};
+ghost use Rattle.escapes.specs.Escapes.{count, repetition, part};
 
-use std::alloc::{AllocError, Global};
+use crate::escaped::push_piece;
+use std::alloc::AllocError;
 
-// Where a reader of repeats stands: outside of them, in a count with the number that its digits write so far, or in a
-// piece that is to be written so many times.
-#[derive(Clone, Copy)]
-pub(crate) enum Place {
-    Outside,
-    Count(usize),
-    Piece(usize),
+// How often a piece is repeated; 0 where the text is no number that fits.
+fn count(text: &str) -> u32
+    ensures { result ≡ count text.now }
+{
+    text.parse::<u32>().unwrap_or(0)
 }
 
-// A count with one digit more.
-fn next_count(count: usize, digit: u8) -> usize
-    ensures { result ≡ counted count digit }
+// Puts a repetition at the end of `out`, which is a count, a colon and the piece.
+fn push_repetition(text: &str, out: &mut Vec<u8>) -> Result<(), AllocError>
+    ensures { IfOk result (λ _. out.new.items ≡ out.old.items ++ repetition text.now) }
 {
-    count
-        .saturating_mul(10)
-        .saturating_add(digit.saturating_sub(b'0') as usize)
-}
-
-// The text with its repeats written out.
-pub(crate) fn write_repeats(heap: Global, text: &[u8]) -> Result<Vec<u8>, AllocError>
-    ensures { IfOk result (λ out. out.items ≡ repeated text.now) }
-{
-    let mut out = Vec::new(heap);
-    let mut piece = Vec::new(heap);
-    let mut place = Place::Outside;
-    for byte in text {
-        place = read(place, *byte, &mut piece, &mut out)?;
+    if let Some((digits, piece)) = text.split_once(':') {
+        for _ in 0..count(digits) {
+            push_piece(piece, out)?;
+        }
     }
-    Ok(out)
+    Ok(())
 }
 
-// Reads one byte more: it goes to the end of `out`, to the piece, or to neither; the brace that ends a piece puts the
-// piece at the end of `out`, so many times.
-fn read(place: Place, byte: u8, piece: &mut Vec<u8>, out: &mut Vec<u8>) -> Result<Place, AllocError>
-    ensures { IfOk result (λ next. (rest : List ℕ) →
-        out.new.items ++ from_place next piece.new.items rest ≡ out.old.items ++ from_place place piece.old.items (byte ∷ rest)) }
+// Puts a part of the text at the end of `out`: a repetition and a piece that a brace parts, or a piece alone.
+pub(crate) fn push_part(text: &str, out: &mut Vec<u8>) -> Result<(), AllocError>
+    ensures { IfOk result (λ _. out.new.items ≡ out.old.items ++ part text.now) }
 {
-    match (place, byte) {
-        (Place::Outside, b'{') => Ok(Place::Count(0)),
-        (Place::Outside, _) => {
-            out.push(byte)?;
-            Ok(Place::Outside)
+    match text.split_once('}') {
+        Some((repetition, piece)) => {
+            push_repetition(repetition, out)?;
+            push_piece(piece, out)
         }
-        (Place::Count(count), b':') => {
-            piece.clear();
-            Ok(Place::Piece(count))
-        }
-        (Place::Count(count), _) => Ok(Place::Count(next_count(count, byte))),
-        (Place::Piece(count), b'}') => {
-            let pieces = piece.as_slice().repeat(*out.allocator(), count)?;
-            out.extend_from_slice(pieces.as_slice())?;
-            Ok(Place::Outside)
-        }
-        (Place::Piece(count), _) => {
-            piece.push(byte)?;
-            Ok(Place::Piece(count))
-        }
+        None => push_piece(text, out),
     }
 }

@@ -7,7 +7,6 @@ use Rattle.text.specs.declared.word.Word.{Word}
 use Rattle.text.specs.declared.word.Word.TheVariants as word
 use Rattle.text.specs.declared.fault.LineFault.{LineFault}
 use Rattle.text.specs.declared.fault.FileFault.{FileFault}
-use Rattle.text.specs.declared.fault.Numbered.{Numbered}
 use Rattle.text.specs.Cuts.{Line, field}
 use Rattle.text.specs.Fields.{lawful_number, labels_of}
 use Rattle.text.specs.Words.{one_of}
@@ -127,11 +126,6 @@ pub record Stepped (line : Line) (r q : Loader) : Type 0 where
 abbrev pub StepRead : List Line → ℕ → Line → Loader → Loader → Result (Unit {0}) FileFault → Type 0
 StepRead before n line r q (Ok _) = (line_refusal before n line ≡ None) × Stepped line r q
 StepRead before n line r q (Err fault) = line_refusal before n line ≡ Some fault
-
--- a line's answer, its fault with the number of the line
-abbrev pub numbered_result : ℕ → Result Record LineFault → Result Record Numbered
-numbered_result n (Ok r) = Ok r
-numbered_result n (Err f) = Err (record { line = n; fault = f })
 
 -- are all states there, if this is the end?
 abbrev pub all_there : Loader → Record → Bool

@@ -7,6 +7,8 @@ use model::labels::Labels;
 // its first branch, and the branches. `starts` and `offsets` end with the number of choices and of branches. There
 // is room for 512 states, 2,048 choices and 4,096 branches, so nothing put in within these limits wants memory.
 // Vectors of vectors would want memory for each state and choice that a text has: these arrays have it beforehand.
+// `labels` and `starts` are not one vector of pairs, since `starts` has one entry more than there are states: the next
+// entry, where the choices of a state end, is then there for the last state too; so it is with `offsets` and choices.
 #[derive(Drop)]
 pub struct Flat {
     pub denominator: u32,

@@ -25,8 +25,8 @@ pub(crate) enum Record {
 }
 
 // The loader of a text: the arrays that it fills, the word of the last line, if any, and what the header says, 0 and 0
-// before it is read. The arrays are within the limits, so that what is read next has room, and the row of the last choice
-// begins within the branches.
+// before it is read: an `Option` would add a case that no line meets, since `mdp` comes first. The arrays are within the
+// limits, so that what is read next has room, and the row of the last choice begins within the branches.
 #[derive(Drop)]
 pub(crate) struct Loader<'a> {
     pub(crate) flat: &'a mut Flat,

@@ -1,11 +1,11 @@
 ghost use Rattle.std.specs.Prelude.{◌≡◌, List, Ok, Err};
 ghost use Rattle.text.specs.Cuts.{Line, fields};
 ghost use Rattle.flat.specs.Drafts.{Emptied};
-ghost use Rattle.flat.specs.Readings.{Follows, Admits, word_of_record, numbered_result, all_there, Put, Begun, StepRead};
+ghost use Rattle.flat.specs.Readings.{Follows, Admits, word_of_record, all_there, Put, Begun, StepRead};
 
 use crate::flat::Flat;
 use crate::loader::{Header, Loader, Record};
-use text::fault::{FileFault, LineFault, Numbered};
+use text::fault::{FileFault, Numbered};
 use text::word::Word;
 
 impl Record {
@@ -21,13 +21,6 @@ impl Record {
             Record::End => Word::End,
         }
     }
-}
-
-// A line's fault with the number of the line.
-fn with_number(res: Result<Record, LineFault>, line: usize) -> Result<Record, Numbered>
-    ensures { result ≡ numbered_result line res }
-{
-    res.map_err(|fault| Numbered { line, fault })
 }
 
 impl<'a> Loader<'a> {
@@ -88,7 +81,10 @@ impl<'a> Loader<'a> {
         ensures same_reference { self.new.flat.ghost_name ≡ self.old.flat.ghost_name }
         ensures read { (before : List Line) → Follows self.old before → StepRead before number (fields line.now) self.old self.new result }
     {
-        let record = with_number(self.read_line(line), number)?;
+        let record = self.read_line(line).map_err(|fault| Numbered {
+            line: number,
+            fault,
+        })?;
         if !self.states_there(record) {
             return Err(FileFault::Missing);
         }

@@ -1,4 +1,5 @@
 pub mod Tokens
+pub mod Extremals
 pub mod Records
 pub mod Questions
 pub mod Readings

@@ -1,8 +1,8 @@
 ghost use Rattle.std.specs.Prelude.{◌≡◌, ◌≤◌, length};
 ghost use Rattle.formula.specs.Tokens.{has, JustReads, WordReads};
 
-// A place in a text: that of one of its bytes, or its end. Readers answer bare places, which faults tell: a cursor in
-// each answer would need a proof at each use that its text is still the same, so one is made where reading goes on.
+// A place in a text: that of one of its bytes, or its end. Readers answer bare places, which faults tell, and a cursor
+// goes to one where reading goes on.
 #[derive(Clone, Copy)]
 pub(crate) struct Cursor<'a> {
     pub text: &'a [u8],
@@ -10,7 +10,7 @@ pub(crate) struct Cursor<'a> {
     ghost inside: { at ≤ length text.now },
 }
 
-impl Cursor<'_> {
+impl<'a> Cursor<'a> {
     // Does the byte stand here?
     pub(crate) fn stands(self, byte: u8) -> bool
         ensures { result ≡ has self.entry.text.now self.entry.at byte }
@@ -29,22 +29,25 @@ impl Cursor<'_> {
         }
     }
 
-    // The same at another place of the text.
-    pub(crate) fn expect_at(self, at: usize, byte: u8) -> Result<usize, usize>
+    // The cursor at another place of its text.
+    pub(crate) fn to(self, at: usize) -> Cursor<'a>
         requires { at ≤ length self.text.now }
-        ensures { JustReads byte self.entry.text.now at result }
+        ensures same { result.text.now ≡ self.entry.text.now }
+        ensures place { result.at ≡ at }
     {
-        let text = self.text;
-        Cursor { text, at }.expect(byte)
+        Cursor {
+            text: self.text,
+            at,
+        }
     }
 
     // The place after the word, if it stands here; else the place where it breaks off.
     pub(crate) fn expect_all(self, word: &[u8]) -> Result<usize, usize>
         ensures { WordReads word.now self.entry.text.now self.entry.at result }
     {
-        let Cursor { text, mut at } = self;
+        let mut at = self.at;
         for byte in word {
-            at = Cursor { text, at }.expect(*byte)?;
+            at = self.to(at).expect(*byte)?;
         }
         Ok(at)
     }

@@ -7,8 +7,8 @@ use crate::reading::{Path, Reading};
 use records::record::{Kind, Record};
 
 // Reads the state formula that begins there, and writes its records from number `count` on, as far as there is room:
-// what is known of it, or the place where every beginning of a formula breaks off. The count goes from a part to the
-// next within what is known of the part, so it is no field beside the records.
+// what is known of it, or the place where every beginning of a formula breaks off. Each call begins at the number of
+// records that the parts before it have, so the count differs from call to call and is no field beside the records.
 #[cycle(path_formula_state_formula)]
 pub(crate) fn state_formula(
     from: Cursor<'_>,
@@ -19,30 +19,30 @@ pub(crate) fn state_formula(
     ensures { StateReads from.entry.text.now from.entry.at count records.old records.new result }
 {
     let Cursor { text, at } = from;
-    if at == text.len() {
+    let Some(first) = text.get(at) else {
         return Err(at);
-    }
-    match text[at] {
+    };
+    match *first {
         b'!' => {
-            let part = state_formula(Cursor { text, at: at + 1 }, records, count)?;
+            let part = state_formula(from.to(at + 1), records, count)?;
             let line = compound(Kind::Negation, part.count - 1, 0);
             put(records, part.count, line);
             Ok(part.entire(part.end))
         }
         b'(' => {
-            let left = state_formula(Cursor { text, at: at + 1 }, records, count)?;
-            let middle = from.expect_at(left.end, b'&')?;
-            let right = state_formula(Cursor { text, at: middle }, records, left.count)?;
-            let end = from.expect_at(right.end, b')')?;
+            let left = state_formula(from.to(at + 1), records, count)?;
+            let middle = from.to(left.end).expect(b'&')?;
+            let right = state_formula(from.to(middle), records, left.count)?;
+            let end = from.to(right.end).expect(b')')?;
             let line = compound(Kind::Conjunction, left.count - 1, right.count - 1);
             put(records, right.count, line);
             Ok(left.joined(right).entire(end))
         }
         b'P' => {
-            let bound = Cursor { text, at: at + 1 }.read_bound()?;
-            let opening = from.expect_at(bound.end, b'[')?;
-            let path = path_formula(Cursor { text, at: opening }, records, count)?;
-            let end = from.expect_at(path.parts.end, b']')?;
+            let bound = from.to(at + 1).read_bound()?;
+            let opening = from.to(bound.end).expect(b'[')?;
+            let path = path_formula(from.to(opening), records, count)?;
+            let end = from.to(path.parts.end).expect(b']')?;
             put(records, path.parts.count, path.line(bound));
             Ok(path.probability(at, bound, end))
         }
@@ -60,22 +60,14 @@ pub(crate) fn path_formula(
     requires { count ≤ from.at }
     ensures { PathReads from.entry.text.now from.entry.at count records.old records.new result }
 {
-    let Cursor { text, at } = from;
     if from.stands(b'X') {
-        let part = state_formula(Cursor { text, at: at + 1 }, records, count)?;
+        let part = state_formula(from.to(from.at + 1), records, count)?;
         return Ok(Path::next(part));
     }
     let left = state_formula(from, records, count)?;
-    let until = from.expect_at(left.end, b'U')?;
-    let steps = Cursor { text, at: until }.read_steps()?;
-    let right = state_formula(
-        Cursor {
-            text,
-            at: steps.end,
-        },
-        records,
-        left.count,
-    )?;
+    let until = from.to(left.end).expect(b'U')?;
+    let steps = from.to(until).read_steps()?;
+    let right = state_formula(from.to(steps.end), records, left.count)?;
     Ok(Path::until(left, steps.limit, right))
 }
 

@@ -3,6 +3,7 @@
 #![tactic(auto)]
 
 mod cursor;
+pub mod extremal;
 mod formulas;
 pub mod reader;
 mod reading;

@@ -1,15 +1,11 @@
-ghost use Rattle.std.specs.Prelude.{◌≡◌, ◌+◌, ◌^◌, ◌<◌, is_some, nat_le};
+ghost use Rattle.std.specs.Prelude.{◌≡◌, ◌+◌, ◌^◌, ◌<◌, nat_le};
 ghost use Rattle.text.specs.Refusals.{ask};
-ghost use Rattle.theory.specs.Formulas.{extremal as theory_extremal};
 ghost use Rattle.formula.specs.Tokens.{meant};
 ghost use Rattle.formula.specs.Readings.{kind_unbounded, atom, joined, entire, preceded, next_path, until_path, probability, path_record};
 
+use crate::extremal::{Extremal, WHOLE};
 use crate::token::{Bound, Number};
-use records::comparison::Comparison;
 use records::record::{Kind, Record};
-
-// The largest bound: all units of the whole.
-const WHOLE: u64 = 1_000_000_000;
 
 // The most steps that an until may have.
 const MOST_STEPS: u64 = 10_000;
@@ -17,6 +13,7 @@ const MOST_STEPS: u64 = 10_000;
 // What is known of a formula that was read, or of the parts of one: the place after it, how many records there are then,
 // its depth, the place of its first number above its limit, and that of its first `P` over an until without steps under
 // none of its three bounds.
+// That a count has room to grow is asked where it grows: only the reader knows that there are no more records than bytes.
 #[derive(Clone, Copy)]
 pub(crate) struct Reading {
     pub end: usize,
@@ -45,23 +42,12 @@ fn excess(number: Number, limit: u64) -> Option<usize>
     (number.value > limit).then_some(number.place)
 }
 
-// Is the bound one of the three that an until without steps may stand under?
-fn extremal(comparison: Comparison, number: u64) -> bool
-    ensures { result ≡ is_some (theory_extremal (meant comparison) number) }
-{
-    match comparison {
-        Comparison::Below => false,
-        Comparison::AtMost | Comparison::Above => number == 0,
-        Comparison::AtLeast => number == WHOLE,
-    }
-}
-
 // The place, if a probability of this kind is an until without steps that may not stand under the bound.
-fn unbounded(kind: Kind, bound: Bound, at: usize) -> Option<usize>
+fn unbounded_place(kind: Kind, bound: Bound, at: usize) -> Option<usize>
     ensures { result ≡ kind_unbounded kind (meant bound.comparison) bound.number.value at }
 {
-    let bad = matches!(kind, Kind::Until) && !extremal(bound.comparison, bound.number.value);
-    bad.then_some(at)
+    let extremal = Extremal::of(bound.comparison, bound.number.value);
+    (kind == Kind::Until && extremal.is_none()).then_some(at)
 }
 
 impl Reading {
@@ -156,7 +142,7 @@ impl Path {
         ensures { result ≡ probability at bound self end }
     {
         let large = excess(bound.number, WHOLE);
-        let unbounded = unbounded(self.kind, bound, at);
+        let unbounded = unbounded_place(self.kind, bound, at);
         self.parts.preceded(large, unbounded).entire(end)
     }
 

@@ -57,9 +57,8 @@ impl Cursor<'_> {
     pub(crate) fn read_bound(self) -> Result<Bound, usize>
         ensures { BoundReads self.entry.text.now self.entry.at result }
     {
-        let text = self.text;
         let (comparison, at) = self.read_comparison()?;
-        let (number, end) = Cursor { text, at }.read_number()?;
+        let (number, end) = self.to(at).read_number()?;
         Ok(Bound {
             comparison,
             number,
@@ -71,15 +70,15 @@ impl Cursor<'_> {
     pub(crate) fn read_steps(self) -> Result<Steps, usize>
         ensures { StepsReads self.entry.text.now self.entry.at result }
     {
-        let Cursor { text, at } = self;
+        let at = self.at;
         if !self.stands(b'<') {
             return Ok(Steps {
                 limit: None,
                 end: at,
             });
         }
-        let place = self.expect_at(at + 1, b'=')?;
-        let (number, end) = Cursor { text, at: place }.read_number()?;
+        let place = self.to(at + 1).expect(b'=')?;
+        let (number, end) = self.to(place).read_number()?;
         Ok(Steps {
             limit: Some(number),
             end,

@@ -1,5 +1,6 @@
 -- A refused line and the caret under it.
 use Rattle.std.specs.Prelude.{ℕ, zero, suc, ◌+◌, ◌-◌, min, cond, ◌||◌, List, [], ◌∷◌, ◌++◌, map, length, take, Some, None, codes, Option, ◌==◌}
+use Rattle.text.specs.declared.fault.FieldPlace.{FieldPlace}
 use Rattle.text.specs.declared.fault.FileFault.{FileFault}
 use Rattle.text.specs.Cuts.{piece}
 use Rattle.text.specs.Faults.{fault_line, fault_field}
@@ -21,16 +22,16 @@ field_place zero (b ∷ bs) = 0
 field_place (suc k) (b ∷ bs) = 1 + field_place (cond (b == 9) k (suc k)) bs
 
 -- the place of a fault in its line: past the longest lawful beginning of its field, or the line's start where it has no field
-abbrev pub caret_place : Option (ℕ × ℕ) → List ℕ → ℕ
+abbrev pub caret_place : Option FieldPlace → List ℕ → ℕ
 caret_place None line = 0
-caret_place (Some at) line = min (field_place at.0 line + at.1) (length line)
+caret_place (Some at) line = min (field_place at.field line + at.length) (length line)
 
 -- a line as it is shown, and a caret under the place of the fault
-abbrev pub marked : Option (ℕ × ℕ) → List ℕ → List ℕ
+abbrev pub marked : Option FieldPlace → List ℕ → List ℕ
 marked at line = map shown line ++ (codes "\n" ++ (map under (take (caret_place at line) line) ++ codes "^\n"))
 
 -- the part of a text that is shown for line n, from 1: the line, or its first 100 bytes; nothing for line 0
-abbrev pub mark : ℕ → Option (ℕ × ℕ) → List ℕ → List ℕ
+abbrev pub mark : ℕ → Option FieldPlace → List ℕ → List ℕ
 mark n at text = cond (n == 0) [] (marked at (take 100 (piece 10 (n - 1) text)))
 
 -- a text's refusal: its first line, and then the refused line with the caret

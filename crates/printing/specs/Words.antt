@@ -1,5 +1,6 @@
 -- What a user is told of each fault, and the first line of a refusal.
 use Rattle.std.specs.Prelude.{ℕ, List, [], ◌++◌, Some, None, codes, decimal, Option}
+use Rattle.text.specs.declared.fault.FieldPlace.{FieldPlace}
 use Rattle.text.specs.declared.fault.FieldFault.{FieldFault}
 use Rattle.text.specs.declared.fault.FieldFault.TheVariants.{Number, Labels}
 use Rattle.text.specs.declared.fault.LineFault.{LineFault}
@@ -16,8 +17,8 @@ use Rattle.layers.specs.HoldAnswers as hold
 
 -- the words on a field's fault
 abbrev pub field_words : FieldFault → List ℕ
-field_words (Number field length) = codes "this is no number; write 0, or one to seven digits that do not start with 0"
-field_words (Labels field length) = codes "these are no labels; write letters from a to p in strictly ascending order, or - for none"
+field_words (Number at) = codes "this is no number; write 0, or one to seven digits that do not start with 0"
+field_words (Labels at) = codes "these are no labels; write letters from a to p in strictly ascending order, or - for none"
 
 -- the words on a line's fault
 abbrev pub line_words : LineFault → List ℕ
@@ -50,9 +51,9 @@ abbrev pub hold_words : HoldFault → List ℕ
 hold_words Held = codes "there is no such state to hold; states are numbered from 0 to one below how many there are"
 
 -- the field and the length, of a fault that has them
-abbrev pub field_text : Option (ℕ × ℕ) → List ℕ
+abbrev pub field_text : Option FieldPlace → List ℕ
 field_text None = []
-field_text (Some at) = codes " field " ++ (decimal at.0 ++ (codes " length " ++ decimal at.1))
+field_text (Some at) = codes " field " ++ (decimal at.field ++ (codes " length " ++ decimal at.length))
 
 -- the first line of a text's refusal: its number, its place and its words
 abbrev pub file_refusal : FileFault → List ℕ

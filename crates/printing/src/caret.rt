@@ -4,7 +4,7 @@ ghost use Rattle.printing.specs.Carets.{shown, under, field_place, caret_place, 
 use crate::words::file_refusal;
 use std::alloc::{AllocError, Global};
 use text::cut::piece;
-use text::fault::FileFault;
+use text::fault::{FieldPlace, FileFault};
 
 // A byte of the shown line.
 fn shown(byte: u8) -> u8
@@ -42,12 +42,12 @@ fn field_place(line: &[u8], field: usize) -> usize
 
 // The place of a fault in its line: past the longest lawful beginning of its field, or the line's start where it has no
 // field.
-fn caret_place(line: &[u8], field: Option<(usize, usize)>) -> usize
-    ensures { result ≡ caret_place field line.now }
+fn caret_place(line: &[u8], at: Option<FieldPlace>) -> usize
+    ensures { result ≡ caret_place at line.now }
 {
-    field.map_or(0, |(field, length)| {
-        field_place(line, field)
-            .saturating_add(length)
+    at.map_or(0, |at| {
+        field_place(line, at.field)
+            .saturating_add(at.length)
             .min(line.len())
     })
 }
@@ -67,16 +67,12 @@ fn add_drawn<F: Fn(u8) -> u8>(out: &mut String, line: &[u8], draw: F) -> Result<
 }
 
 // Adds a line as it is shown, and a caret under the place of the fault.
-fn add_marked(
-    out: &mut String,
-    line: &[u8],
-    field: Option<(usize, usize)>,
-) -> Result<(), AllocError>
-    ensures { OnOk result (string_bytes out.new ≡ string_bytes out.old ++ marked field line.now) }
+fn add_marked(out: &mut String, line: &[u8], at: Option<FieldPlace>) -> Result<(), AllocError>
+    ensures { OnOk result (string_bytes out.new ≡ string_bytes out.old ++ marked at line.now) }
 {
     add_drawn(out, line, shown)?;
     out.push_str("\n")?;
-    add_drawn(out, &line[..caret_place(line, field)], under)?;
+    add_drawn(out, &line[..caret_place(line, at)], under)?;
     out.push_str("^\n")?;
     Ok(())
 }
@@ -87,15 +83,15 @@ fn add_mark(
     out: &mut String,
     text: &[u8],
     number: usize,
-    field: Option<(usize, usize)>,
+    at: Option<FieldPlace>,
 ) -> Result<(), AllocError>
-    ensures { OnOk result (string_bytes out.new ≡ string_bytes out.old ++ mark number field text.now) }
+    ensures { OnOk result (string_bytes out.new ≡ string_bytes out.old ++ mark number at text.now) }
 {
     match number.checked_sub(1) {
         None => Ok(()),
         Some(index) => {
             let line = piece(text, b'\n', index);
-            add_marked(out, &line[..line.len().min(100)], field)
+            add_marked(out, &line[..line.len().min(100)], at)
         }
     }
 }

@@ -16,7 +16,7 @@ pub(crate) struct Laid<'a, S, L> {
 
 impl<'a, S: Source, L: Style> Laid<'a, S, L> {
     // The source, to be laid out in the style.
-    pub fn new(heap: Global, style: L, source: &'a S) -> Laid<'a, S, L>
+    pub(crate) fn new(heap: Global, style: L, source: &'a S) -> Laid<'a, S, L>
         ensures style { result.style ≡ style }
         ensures source { result.source.now ≡ source.now }
     {
@@ -41,7 +41,7 @@ impl<'a, S: Source, L: Style> Laid<'a, S, L> {
     }
 
     // One state of the source, laid out.
-    pub fn state(&self, state: usize) -> Result<String, AllocError>
+    pub(crate) fn state(&self, state: usize) -> Result<String, AllocError>
         ensures { IfOk result (λ s. string_bytes s ≡ laid_state (L.Style.layout self.now.style) state (state_of (S.Source.model self.now.source.now) state)) }
     {
         let mut out = self
@@ -56,7 +56,7 @@ impl<'a, S: Source, L: Style> Laid<'a, S, L> {
     }
 
     // The states of the source, laid out.
-    pub fn states(&self) -> Result<String, AllocError>
+    pub(crate) fn states(&self) -> Result<String, AllocError>
         ensures { IfOk result (λ s. string_bytes s ≡ laid_states (L.Style.layout self.now.style) (model_content (S.Source.model self.now.source.now)).states) }
     {
         let mut out = String::new(self.heap);

@@ -7,17 +7,17 @@ use ladder::fault::LadderFault;
 use layers::fault::HoldFault;
 use std::alloc::{AllocError, Global};
 use std::fmt;
-use text::fault::{FieldFault, FileFault, LineFault};
+use text::fault::{FieldFault, FieldPlace, FileFault, LineFault};
 
-// The words on a field's fault. This function and the two below it stay functions: a method would need a trait, since the
-// faults are of another crate, and each of the three faults lies in the next.
+// The words on a field's fault. Those on a field's, a line's and a text's fault are functions, not impls of `Refusal`: a
+// text's refusal tells a line and a place beside the words, so it is no `Refusal`, and the words lie one in another.
 fn field_words(fault: &FieldFault) -> &'static str
     ensures { result.now ≡ field_words fault.now }
 {
     match fault {
-        FieldFault::Number { .. } =>
+        FieldFault::Number(_) =>
             "this is no number; write 0, or one to seven digits that do not start with 0",
-        FieldFault::Labels { .. } => {
+        FieldFault::Labels(_) => {
             "these are no labels; write letters from a to p in strictly ascending order, or - for none"
         }
     }
@@ -130,17 +130,17 @@ impl Refusal for HoldFault {
     }
 }
 
-// The field and the length of a fault, where it has them.
+// Where a fault stands in its line, if it is one of a field.
 #[derive(Clone, Copy)]
-struct FieldPlace(Option<(usize, usize)>);
+struct InField(Option<FieldPlace>);
 
-impl fmt::Display for FieldPlace {
+impl fmt::Display for InField {
     ghost output = { λ p. Some (field_text p.0) };
 
     fn fmt<W: fmt::Write>(&self, f: &mut fmt::Formatter<W>) -> fmt::Result {
         match self.0 {
             None => Ok(()),
-            Some((field, length)) => write!(f, " field {field} length {length}"),
+            Some(FieldPlace { field, length }) => write!(f, " field {field} length {length}"),
         }
     }
 }
@@ -151,7 +151,7 @@ pub(crate) fn file_refusal(heap: Global, fault: &FileFault) -> Result<String, Al
 {
     let number = fault.number();
     let line = fault.line();
-    let field = FieldPlace(fault.field());
+    let field = InField(fault.field());
     let words = file_words(fault);
     format!(in heap; "refused {number} line {line}{field}: {words}")
 }

@@ -43,7 +43,7 @@ impl FormulaFault {
         }
     }
 
-    // The place of the fault in the text, 0 for a fault of the whole.
+    // The place of the fault in the text: where there is none, 0, as the table of refusals gives it, and so no Option.
     pub fn place(&self) -> usize
         ensures { result ≡ formula_fault_place self.now }
     {
@@ -67,7 +67,7 @@ impl JudgeFault {
         }
     }
 
-    // The place of the fault in the text, 0 for a fault of the whole.
+    // The place of the fault in the text: where there is none, 0, as the table of refusals gives it, and so no Option.
     pub fn place(&self) -> usize
         ensures { result ≡ judge_fault_place self.now }
     {

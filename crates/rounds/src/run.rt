@@ -9,7 +9,7 @@ use model::source::Source;
 use rules::rule::Rule;
 
 // There are at most so many rounds.
-const MOST_ROUNDS: u64 = 100_000;
+pub const MOST_ROUNDS: u64 = 100_000;
 
 // `count` rounds of the values under the rule. Afterwards `values` holds the values after that many rounds, and `spare`
 // those after one round less.
@@ -27,7 +27,7 @@ pub fn rounds<S: Source, R: Rule>(
         return Err(RoundsFault::Count);
     }
     let mut buffer = [Branch::default(); ROOM];
-    for done in 0..count {
+    for _ in 0..count {
         one_round(source, rule, values, spare, &mut buffer);
     }
     Ok(())

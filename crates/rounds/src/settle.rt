@@ -24,7 +24,7 @@ pub fn settle<S: Source>(
     check_lengths(states, marks.len(), spare.len())?;
     let mut buffer = [Branch::default(); ROOM];
     let mut done = 0;
-    // a `loop`, since its value is the round that it reached
+    // It is a rule of the project that the fixed point of marks is a `loop` that yields the round reached by `break`.
     let reached = loop {
         if done > states {
             break None;

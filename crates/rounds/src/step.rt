@@ -8,6 +8,8 @@ use model::source::Source;
 use rules::rule::Rule;
 
 // One round: `spare` gets the values as they are, and each state its most preferred mix of them.
+// Its arguments are no struct that holds both lists: where the two are lent to it at one lifetime, the caller's proof learns
+// only how long they are afterwards, and where each has its own, the borrow checker doesn't cover `rounds` and `settle`.
 pub(crate) fn one_round<S: Source, R: Rule>(
     source: &S,
     rule: &R,

@@ -42,14 +42,32 @@ sum_bound (p ∷ ps) =
 pub quotient_bound : (d n : ℕ) → 1 ≤ d → n < (whole + 1) * d → n / d ≤ whole
 quotient_bound d n h k = omega (arith, div_below n d (whole + 1) h (omega arith))
 
--- a mix of numbers stays within the whole for parts, however it is rounded
-rounded_bounded : (r : Rounding) (d : ℕ) (ps : List (ℕ × Part)) → LawfulMix d ps → mix_rounded r d (carried units_of ps) ≤ whole
+-- a mix of numbers that stays within the whole for parts
+abbrev Bounded : (ℕ → List (ℕ × ℕ) → ℕ) → Type 0
+Bounded mix = (d : ℕ) (ps : List (ℕ × Part)) → LawfulMix d ps → mix d (carried units_of ps) ≤ whole
+
+-- rounded down or up it does
+rounded_bounded : (r : Rounding) → Bounded (mix_rounded r)
 rounded_bounded Down d ps l =
     let some = l.some_unit in
     quotient_bound d (sum_of (carried units_of ps)) some (omega (arith, sum_bound ps, ap (λ n. whole * n) l.sums))
 rounded_bounded Up d ps l =
     let some = l.some_unit in
     quotient_bound d (sum_of (carried units_of ps) + (d - 1)) some (omega (arith, sum_bound ps, ap (λ n. whole * n) l.sums))
+
+module _ (mix : ℕ → List (ℕ × ℕ) → ℕ) (bounded : Bounded mix) (laws : (p : Preference) → RuleLaws (prefers_number p) mix) (p : Preference) where
+  -- the units of a mix of parts are the mix of their units
+  units_mixed : (d : ℕ) (ps : List (ℕ × Part)) → LawfulMix d ps → units_of (in_parts mix d ps) ≡ mix d (carried units_of ps)
+  units_mixed d ps l = omega (arith, bounded d ps l)
+
+  -- a rule of numbers that stays within the whole is a rule of parts
+  parts_laws : RuleLaws (prefers_part p) (in_parts mix)
+  parts_laws = carried_laws units_of (prefers_part p) (in_parts mix) (prefers_number p) mix (λ a b. refl) units_mixed (laws p) part_same
+
+  -- and rounds of parts are rounds of their units
+  bounded_rounds : (m : Mdp) → Lawful m → (v : ℕ → Part) (k s : ℕ) → s < m.states →
+      units_of (rounds (prefers_part p) (in_parts mix) k m v s) ≡ rounds (prefers_number p) mix k m (λ t. units_of (v t)) s
+  bounded_rounds = rounds_carried units_of (prefers_part p) (in_parts mix) (prefers_number p) mix (λ a b. refl) units_mixed (laws p)
 
 -- numbers are a rule with either rounding and either preference
 pub numbers_lawful : (r : Rounding) (p : Preference) → RuleLaws (prefers_number p) (mix_rounded r)
@@ -58,16 +76,11 @@ numbers_lawful Down Lesser = down_lesser
 numbers_lawful Up Greater = up_greater
 numbers_lawful Up Lesser = up_lesser
 
-module _ (r : Rounding) (p : Preference) where
-  -- the units of a mix of parts are the mix of their units
-  units_mixed : (d : ℕ) (ps : List (ℕ × Part)) → LawfulMix d ps → units_of (in_parts (mix_rounded r) d ps) ≡ mix_rounded r d (carried units_of ps)
-  units_mixed d ps l = omega (arith, rounded_bounded r d ps l)
+-- parts keep the laws
+pub parts_lawful : (r : Rounding) (p : Preference) → RuleLaws (prefers_part p) (in_parts (mix_rounded r))
+parts_lawful r = parts_laws (mix_rounded r) (rounded_bounded r) (numbers_lawful r)
 
-  -- parts keep the laws
-  pub parts_lawful : RuleLaws (prefers_part p) (in_parts (mix_rounded r))
-  parts_lawful = carried_laws units_of (prefers_part p) (in_parts (mix_rounded r)) (prefers_number p) (mix_rounded r) (λ a b. refl) units_mixed (numbers_lawful r p) part_same
-
-  -- rounds of parts are the theory's rounds of their units
-  pub parts_rounds : (m : Mdp) → Lawful m → (v : ℕ → Part) (k s : ℕ) → s < m.states →
-      units_of (rounds (prefers_part p) (in_parts (mix_rounded r)) k m v s) ≡ rounds (prefers_number p) (mix_rounded r) k m (λ t. units_of (v t)) s
-  parts_rounds = rounds_carried units_of (prefers_part p) (in_parts (mix_rounded r)) (prefers_number p) (mix_rounded r) (λ a b. refl) units_mixed (numbers_lawful r p)
+-- rounds of parts are the theory's rounds of their units
+pub parts_rounds : (r : Rounding) (p : Preference) (m : Mdp) → Lawful m → (v : ℕ → Part) (k s : ℕ) → s < m.states →
+    units_of (rounds (prefers_part p) (in_parts (mix_rounded r)) k m v s) ≡ rounds (prefers_number p) (mix_rounded r) k m (λ t. units_of (v t)) s
+parts_rounds r = bounded_rounds (mix_rounded r) (rounded_bounded r) (numbers_lawful r)

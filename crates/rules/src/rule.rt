@@ -21,7 +21,8 @@ pub trait Rule {
     fn prefers(&self, a: Self::Value, b: Self::Value) -> bool
         ensures { result ≡ preferred self.now a b };
 
-    // The mix of a lawful row, given a value for each state.
+    // The mix of a lawful row, given a value for each state. Row and values are plain slices, so that a rule of one's own
+    // needs no type of ours for them.
     fn mix(&self, denominator: u32, row: &[Branch], values: &[Self::Value]) -> Self::Value
         requires some_unit { 1 ≤ denominator }
         requires few_units { denominator ≤ 1000000 }

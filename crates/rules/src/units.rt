@@ -5,7 +5,7 @@ use crate::fault::PartFault;
 use crate::part::Part;
 
 // So many units make the whole.
-const WHOLE: u32 = 1_000_000_000;
+pub const WHOLE: u32 = 1_000_000_000;
 
 impl TryFrom<u32> for Part {
     type Error = PartFault;

@@ -6,7 +6,8 @@ ghost use Rattle.tables.specs.Keeps.{keeps};
 use flat::flat::Flat;
 
 // The tables of a loaded model. `kept` holds the model, which is always within the limits, and `size` is the length of
-// its text; `draft` is where the next one is read to, so that a refused text leaves the model as it was.
+// its text; `draft` is where the next one is read to, so that a refused text leaves the model as it was. They have no
+// model of their own for contracts: these name the arrays kept, so that a refusal is seen to leave each of them.
 #[derive(Drop)]
 pub struct Tables {
     pub(crate) kept: Flat,

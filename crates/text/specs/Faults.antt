@@ -1,5 +1,6 @@
 -- The number of each fault, and where it stands.
 use Rattle.std.specs.Prelude.{ℕ, Some, None, Option}
+use Rattle.text.specs.declared.fault.FieldPlace.{FieldPlace}
 use Rattle.text.specs.declared.fault.FieldFault.{FieldFault}
 use Rattle.text.specs.declared.fault.FieldFault.TheVariants.{Number, Labels}
 use Rattle.text.specs.declared.fault.LineFault.{LineFault}
@@ -10,8 +11,8 @@ use Rattle.text.specs.declared.fault.NoRoom.{NoRoom}
 
 -- the number of a field's fault
 abbrev pub field_fault_number : FieldFault → ℕ
-field_fault_number (Number field length) = 5
-field_fault_number (Labels field length) = 7
+field_fault_number (Number at) = 5
+field_fault_number (Labels at) = 7
 
 -- the number of a line's fault
 abbrev pub line_fault_number : LineFault → ℕ
@@ -45,13 +46,13 @@ fault_line (Line at) = at.line
 fault_line Missing = 0
 fault_line NoEnd = 0
 
--- the field of a field's fault, and the length of the field's longest lawful beginning
-abbrev pub place : FieldFault → ℕ × ℕ
-place (Number field length) = (field, length)
-place (Labels field length) = (field, length)
+-- where a field's fault stands: the field, and the length of the field's longest lawful beginning
+abbrev pub place : FieldFault → FieldPlace
+place (Number at) = at
+place (Labels at) = at
 
 -- the same of a line's fault, where it is one of a field
-abbrev pub line_fault_field : LineFault → Option (ℕ × ℕ)
+abbrev pub line_fault_field : LineFault → Option FieldPlace
 line_fault_field Word = None
 line_fault_field Fields = None
 line_fault_field (Field fault) = Some (place fault)
@@ -63,7 +64,7 @@ line_fault_field Choices = None
 line_fault_field Branches = None
 
 -- the same of a text's fault
-abbrev pub fault_field : FileFault → Option (ℕ × ℕ)
+abbrev pub fault_field : FileFault → Option FieldPlace
 fault_field Long = None
 fault_field Unended = None
 fault_field (Line at) = line_fault_field at.fault

@@ -4,6 +4,7 @@ use Rattle.std.specs.Str.Parse.{digits_value}
 use Rattle.std.specs.Str.{all_ascii_digits}
 use Rattle.std.specs.List.{list_any}
 use Rattle.model.specs.declared.labels.Labels.{Labels}
+use Rattle.text.specs.declared.fault.FieldPlace.{FieldPlace}
 use Rattle.text.specs.declared.fault.FieldFault.{FieldFault}
 use Rattle.text.specs.declared.fault.FieldFault.TheVariants as fault
 
@@ -69,11 +70,15 @@ longest_within test xs (suc n) = cond (test (take (suc n) xs)) (suc n) (longest_
 abbrev pub longest : (List ℕ → Bool) → List ℕ → ℕ
 longest test xs = longest_within test xs (length xs)
 
+-- the place of the fault of field k, of bytes w, which fails the test: the field, and the length of its longest beginning that passes
+abbrev pub unlawful_place : (List ℕ → Bool) → List ℕ → ℕ → FieldPlace
+unlawful_place test w k = record { field = k; length = longest test w }
+
 -- what reading a number, field k of its line, answers
 abbrev pub number_read : List ℕ → ℕ → Result ℕ FieldFault
-number_read w k = cond (lawful_number w) (Ok (amount w)) (Err (fault.Number k (longest lawful_number w)))
+number_read w k = cond (lawful_number w) (Ok (amount w)) (Err (fault.Number (unlawful_place lawful_number w k)))
 
 -- what reading a set of labels, field k of its line, answers
 abbrev pub LabelsRead : List ℕ → ℕ → Result Labels FieldFault → Type 0
 LabelsRead w k (Ok l) = (lawful_labels w ≡ true) × (l.letters ≡ labels_of w)
-LabelsRead w k (Err e) = (lawful_labels w ≡ false) × (e ≡ fault.Labels k (longest lawful_labels w))
+LabelsRead w k (Err e) = (lawful_labels w ≡ false) × (e ≡ fault.Labels (unlawful_place lawful_labels w k))

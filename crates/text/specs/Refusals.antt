@@ -7,7 +7,7 @@ use Rattle.text.specs.declared.fault.LineFault.TheVariants.{Word, Fields, Field,
 use Rattle.text.specs.declared.fault.FileFault.{FileFault}
 use Rattle.text.specs.declared.fault.FileFault.TheVariants as file_fault
 use Rattle.text.specs.Cuts.{Line, field, lines}
-use Rattle.text.specs.Fields.{lawful_number, lawful_labels, longest}
+use Rattle.text.specs.Fields.{lawful_number, lawful_labels, unlawful_place}
 use Rattle.text.specs.Words.{one_of}
 use Rattle.text.specs.Questions.{last_word, word_fits, fields_fit, number_fits, range_fits, labels_fit, order_fits, sum_fits, states_left, choices_left, branches_left, states_there}
 
@@ -25,13 +25,13 @@ abbrev pub first : {F : Type 0} → List (Option F) → Option F
 first [] = None
 first (f ∷ fs) = or_next f (first fs)
 
--- the fault of field k where it is no lawful number: the field, and the length of its longest lawful beginning
+-- the fault of field k where it is no lawful number
 abbrev pub number_fault : ℕ → Line → LineFault
-number_fault k line = Field (field_fault.Number k (longest lawful_number (field k line)))
+number_fault k line = Field (field_fault.Number (unlawful_place lawful_number (field k line) k))
 
 -- the fault of field k where it is no lawful set of labels
 abbrev pub labels_fault : ℕ → Line → LineFault
-labels_fault k line = Field (field_fault.Labels k (longest lawful_labels (field k line)))
+labels_fault k line = Field (field_fault.Labels (unlawful_place lawful_labels (field k line) k))
 
 -- the fault of a line after the lines before it, the newest first: the questions 3 to 12 in their order
 abbrev pub line_fault : List Line → Line → Option LineFault

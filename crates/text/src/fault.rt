@@ -3,13 +3,19 @@ ghost use Rattle.text.specs.Faults.{field_fault_number, line_fault_number, file_
 ghost use Rattle.text.specs.declared.fault.FileFault.TheVariants.{Line};
 ghost use Rattle.text.specs.declared.fault.LineFault.TheVariants.{Field};
 
-// A fault of one field: the number of the field, the word being field 0, and the length of its longest lawful
-// beginning. A struct of the two with a kind beside them would say no more, and be longer where a fault is made or
-// matched.
+// Where a field of a line is at fault: the number of the field, the word being field 0, and the length of its longest
+// lawful beginning.
+#[derive(Clone, Copy, PartialEq, Eq, Debug)]
+pub struct FieldPlace {
+    pub field: usize,
+    pub length: usize,
+}
+
+// A fault of one field, which is to be a number or a set of labels.
 #[derive(Clone, Copy, PartialEq, Eq, Debug)]
 pub enum FieldFault {
-    Number { field: usize, length: usize },
-    Labels { field: usize, length: usize },
+    Number(FieldPlace),
+    Labels(FieldPlace),
 }
 
 // A fault of one line.
@@ -71,17 +77,17 @@ impl FieldFault {
         ensures { result ≡ field_fault_number self.now }
     {
         match self {
-            FieldFault::Number { .. } => 5,
-            FieldFault::Labels { .. } => 7,
+            FieldFault::Number(_) => 5,
+            FieldFault::Labels(_) => 7,
         }
     }
 
-    // The field, and the length of its longest lawful beginning.
-    fn place(&self) -> (usize, usize)
+    // Where the field is at fault.
+    fn place(&self) -> FieldPlace
         ensures { result ≡ place self.now }
     {
-        let (FieldFault::Number { field, length } | FieldFault::Labels { field, length }) = self;
-        (*field, *length)
+        let (FieldFault::Number(place) | FieldFault::Labels(place)) = self;
+        *place
     }
 }
 
@@ -128,8 +134,8 @@ impl FileFault {
         }
     }
 
-    // Of a fault of a field, the field and the length of its longest lawful beginning.
-    pub fn field(&self) -> Option<(usize, usize)>
+    // Of a fault of a field, where the field is at fault.
+    pub fn field(&self) -> Option<FieldPlace>
         ensures { result ≡ fault_field self.now }
     {
         match self {

@@ -2,6 +2,7 @@ ghost use Rattle.std.specs.Prelude.{◌≡◌};
 ghost use Rattle.text.specs.Fields.{LabelsRead, ascending, lawful_labels, longest};
 
 use crate::fault::FieldFault;
+use crate::lawful::check_lawful;
 use model::labels::Labels;
 use std::array;
 
@@ -9,13 +10,7 @@ use std::array;
 pub fn labels(field: &[u8], index: usize) -> Result<Labels, FieldFault>
     ensures { LabelsRead field.now index result }
 {
-    let length = labels_length(field);
-    if length == 0 || length < field.len() {
-        return Err(FieldFault::Labels {
-            field: index,
-            length,
-        });
-    }
+    check_lawful(field, index, labels_length(field)).map_err(FieldFault::Labels)?;
     let letters = array::from_fn(|i| field.contains(&(b'a' + i as u8)));
     Ok(Labels { letters })
 }

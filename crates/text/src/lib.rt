@@ -5,6 +5,7 @@
 pub mod cut;
 pub mod fault;
 pub mod labels;
+mod lawful;
 pub mod number;
 #[cfg(test)]
 mod tests;

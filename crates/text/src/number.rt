@@ -2,19 +2,14 @@ ghost use Rattle.std.specs.Prelude.{◌≡◌};
 ghost use Rattle.text.specs.Fields.{lawful_number, longest, number_read};
 
 use crate::fault::FieldFault;
+use crate::lawful::check_lawful;
 use std::str;
 
 // The number that field `index` of a line writes: 0, or one to seven digits that do not start with 0.
 pub fn number(field: &[u8], index: usize) -> Result<u32, FieldFault>
     ensures { result ≡ number_read field.now index }
 {
-    let length = number_length(field);
-    if length == 0 || length < field.len() {
-        return Err(FieldFault::Number {
-            field: index,
-            length,
-        });
-    }
+    check_lawful(field, index, number_length(field)).map_err(FieldFault::Number)?;
     // Digits are text, and seven of them fit.
     let digits = str::from_utf8(field).unwrap();
     Ok(digits.parse().unwrap())

@@ -1,5 +1,5 @@
 use crate::cut::{field, field_count};
-use crate::fault::FieldFault;
+use crate::fault::{FieldFault, FieldPlace};
 use crate::labels::labels;
 use crate::number::number;
 
@@ -10,12 +10,12 @@ fn flags(field: &[u8]) -> Result<[bool; 16], FieldFault> {
 
 // The fault of a number in field 1 whose longest lawful beginning has this length.
 fn no_number(length: usize) -> Result<u32, FieldFault> {
-    Err(FieldFault::Number { field: 1, length })
+    Err(FieldFault::Number(FieldPlace { field: 1, length }))
 }
 
 // The fault of a set of labels in field 1 whose longest lawful beginning has this length.
 fn no_flags(length: usize) -> Result<[bool; 16], FieldFault> {
-    Err(FieldFault::Labels { field: 1, length })
+    Err(FieldFault::Labels(FieldPlace { field: 1, length }))
 }
 
 #[test]

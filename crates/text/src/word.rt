@@ -34,7 +34,7 @@ impl<'a> TryFrom<&'a [u8]> for Word {
 
 impl Word {
     // May a line with this word follow one with the word `last`, or start the text where there is none?
-    // As the loader's rule asks, its state (the last word) and the record's word are matched together.
+    // The state of a loader (the last word) and the record's word are matched together, by a rule of the project.
     pub fn may_follow(self, last: Option<Word>) -> bool
         ensures { result ≡ listed self (followers last) }
     {

@@ -1,9 +1,7 @@
--- Flags that are set one after another: the first i are as they should be, and no later one is set.
-use Rattle.std.proofs.Common.{◌≡◌, ℕ, ◌+◌, ◌<◌, ◌≤◌, Bool, true, false, ◌≢◌, List, length, get_or, set, replicate, Ok, Err, Result, sym, ◌∙◌, arith, length-set, get_or-set_other, get_or-set_same, below_more}
+-- Flags that are set one after another: the first i are as they should be, and no later one is set. The marks that decide them are taken from their lists one after another too.
+use Rattle.std.proofs.Common.{◌≡◌, ℕ, ◌+◌, ◌<◌, ◌≤◌, Bool, true, false, ◌≢◌, List, length, get_or, set, replicate, sym, ap, ◌∙◌, arith, ◌∷◌, drop, add-zero, length-set, get_or-set_other, get_or-set_same, below_more}
+use Rattle.std.proofs.lemmas.List.{length-drop, drop-drop, get_or-drop}
 use lib.ListN.{length-replicate}
-use Rattle.model.specs.Mdp.{Mdp}
-use Rattle.layers.specs.declared.fault.HoldFault.{HoldFault}
-use Rattle.layers.specs.HoldAnswers.{Ran}
 use Rattle.layers.proofs.Flags.{none_set}
 
 -- the flags below i are those of the set, and no flag from i on is set
@@ -40,7 +38,8 @@ module _ (stop : ℕ → Bool) (i : ℕ) (flags : List Bool) (part : Partly stop
     above = λ s k. part.above s (omega arith);
   }
 
--- holding a state that exists sets its flag
-pub held_set : (m : Mdp) (s : ℕ) (before after : List Bool) (r : Result (Unit {0}) HoldFault) → s < m.states → Ran m s before after r → after ≡ set before s true
-held_set m s before after (Ok _) h d = d.flags
-held_set m s before after (Err e) h d = let past = d.past in absurd (omega arith)
+-- where x and the rest come after the first i of a list, x stands at i, and the rest comes after the first i + 1
+pub next_at : (xs : List ℕ) (i : ℕ) {x : ℕ} {now rest : List ℕ} → now ≡ drop i xs → now ≡ x ∷ rest → (i < length xs) × (get_or xs i 0 ≡ x) × (rest ≡ drop (i + 1) xs)
+next_at xs i from next =
+    let e = sym from ∙ next in
+    (omega (arith, ap length e, length-drop i xs), sym (get_or-drop i xs 0 0 ∙ ap (λ n. get_or xs n 0) (add-zero i)) ∙ ap (λ l. get_or l 0 0) e, sym (ap (drop 1) e) ∙ drop-drop 1 i xs)

@@ -42,12 +42,12 @@ module _ (p : Preference) (m : Mdp) (l : Lawful m) where
     settled_list grows spare new spare' None settled = absurd (settled.some_taken (front_grows grows))
 
     -- and the settled front is that of the whole list
-    pub front_settled : TakesNone p m marks → (spare new spare' rest : List Bool) (o : Option ℕ) → Settling p m (take n marks) spare new spare' (Ok o) → (s : ℕ) → s < m.states → get_or (new ++ rest) s false ≡ marks_after p m marks m.states s
-    front_settled grows spare new spare' rest o settled s h =
+    pub front_settled : TakesNone p m marks → (spare new spare' rest : List Bool) (o : Option ℕ) → Settling p m (take n marks) spare new spare' (Ok o) → (d : Bool) (s : ℕ) → s < m.states → get_or (new ++ rest) s d ≡ marks_after p m marks m.states s
+    front_settled grows spare new spare' rest o settled d s h =
         let after = marks_after p m (take n marks) m.states in
-        ap (λ (vs : List Bool). get_or (vs ++ rest) s false) (settled_list grows spare new spare' o settled)
-        ∙ get_or_append_left (listed m.states after) rest false s (omega (arith, length-map-range_with_len after 0 m.states))
-        ∙ told_listed m.states after false s h
+        ap (λ (vs : List Bool). get_or (vs ++ rest) s d) (settled_list grows spare new spare' o settled)
+        ∙ get_or_append_left (listed m.states after) rest d s (omega (arith, length-map-range_with_len after 0 m.states))
+        ∙ told_listed m.states after d s h
         ∙ after_alike (take n marks) (told marks false) front_told m.states s h
 
 module _ (left right : ℕ → Bool) (m : Mdp) (l : Lawful m) (marks : List Bool) where

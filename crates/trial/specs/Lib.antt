@@ -4,5 +4,5 @@ pub mod VerdictBytes
 pub mod Queries
 pub mod Keeping
 pub mod Answers
-pub mod Extremals
+pub mod StateValues
 pub mod Rows

@@ -1,4 +1,4 @@
-ghost use Rattle.std.specs.Prelude.{◌≡◌, ◌≤◌, length};
+ghost use Rattle.std.specs.Prelude.{◌≡◌};
 ghost use Rattle.trial.specs.Answers.{all_marks, start_fault, answer};
 ghost use Rattle.trial.specs.Keeping.{Begun};
 
@@ -7,6 +7,8 @@ use crate::ends::start_ends;
 use crate::fault::TrialFault;
 use crate::per_state::PerState;
 use crate::state::QueryState;
+use crate::until::Until;
+use model::source::Source;
 
 // Is every byte 0 or 1?
 fn all_marks(bytes: &[u8]) -> bool
@@ -29,20 +31,18 @@ pub(crate) fn check_marks(states: usize, left: &[u8], right: &[u8]) -> Result<()
 }
 
 impl QueryState {
-    // The query of these marks, with no round made.
-    pub(crate) fn begun(left: &[u8], right: &[u8], aim: Aim) -> QueryState
-        requires left_fits { length left.now ≤ 512 }
-        requires right_fits { length right.now ≤ 512 }
-        ensures { Begun left.now right.now aim result }
+    // The query for this until, with no round made.
+    pub(crate) fn begun<S: Source>(until: &Until<'_, '_, S>, aim: Aim) -> QueryState
+        ensures { Begun until.now.left.now until.now.right.now aim result }
     {
         QueryState {
             aim,
             rounds: 0,
-            left: PerState::of(left, 0, |byte| byte),
-            right: PerState::of(right, 0, |byte| byte),
-            lower: start_ends(right),
-            upper: start_ends(right),
-            spare: start_ends(right),
+            left: PerState::of(until.left, 0, |byte| byte),
+            right: PerState::of(until.right, 0, |byte| byte),
+            lower: start_ends(until.right),
+            upper: start_ends(until.right),
+            spare: start_ends(until.right),
         }
     }
 }

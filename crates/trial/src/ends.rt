@@ -7,12 +7,14 @@ ghost use Rattle.rules.specs.Parts.{part_of, units_of};
 ghost use Rattle.rules.specs.Values.{told};
 ghost use Rattle.rounds.specs.Refusals.{most_rounds};
 ghost use Rattle.trial.specs.Queries.{marked};
+ghost use Rattle.trial.specs.StateValues.{ValuesOf};
 
 use crate::per_state::PerState;
 use model::source::Source;
 use rounds::run::rounds;
 use rules::part::Part;
 use rules::rule::Rule;
+use rules::units::WHOLE;
 
 // The part of so many units, of which there are no more than the whole has.
 fn part(units: u32) -> Part
@@ -27,7 +29,7 @@ pub(crate) fn start_ends(right: &[u8]) -> PerState<Part>
     requires { length right.now ≤ 512 }
     ensures { (d : PartValue) (s : ℕ) → s < length right.now → units_of (slice_index_or result.values s d) ≡ start (marked right.now) s }
 {
-    let (all, none) = (part(1_000_000_000), part(0));
+    let (all, none) = (part(WHOLE), part(0));
     PerState::of(right, none, |byte| if byte == 1 { all } else { none })
 }
 
@@ -40,7 +42,7 @@ pub(crate) fn advance<S: Source, R: Rule>(
     count: u64,
 )
     requires { count ≤ most_rounds }
-    ensures { (d : R.Value) (s : ℕ) → s < (S.Source.model source.now).states → slice_index_or ends.new.values s d ≡ rounds_of (R.Rule.preferred rule.now) (R.Rule.mixed rule.now) count (S.Source.model source.now) (told ends.old.values d) s }
+    ensures { (d : R.Value) → ValuesOf (S.Source.model source.now).states ends.new.values (rounds_of (R.Rule.preferred rule.now) (R.Rule.mixed rule.now) count (S.Source.model source.now) (told ends.old.values d)) }
 {
     let states = source.states();
     let front = &mut ends.values[..states];

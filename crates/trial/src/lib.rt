@@ -6,7 +6,6 @@
 pub mod aim;
 mod begin;
 mod ends;
-mod extremal;
 pub mod fault;
 mod path_rows;
 mod per_state;

@@ -14,7 +14,7 @@ use crate::until::Until;
 use model::source::Source;
 use rules::rounding::Rounding;
 
-// The marks of the states where a part is not a no.
+// The marks of the states where a part is not a no. Of a part's byte, 1 is sure and any but 0 is possible.
 pub(crate) fn possible_marks(part: &[u8]) -> PerState<u8>
     requires { length part.now ≤ 512 }
     ensures { (s : ℕ) → s < length part.now → marked result.values s ≡ (sets part.now).possible s }
@@ -22,7 +22,8 @@ pub(crate) fn possible_marks(part: &[u8]) -> PerState<u8>
     PerState::of(part, 0, |byte| u8::from(byte != 0))
 }
 
-// The row of a next under a comparison with a bound.
+// The row of a next under a comparison with a bound. A row's length is asked at each call, since a lent row says nothing of
+// its source.
 pub(crate) fn next_row<S: Source>(source: &S, threshold: Threshold, part: &[u8], row: &mut [u8])
     requires part_long { length part.now ≡ (S.Source.model source.now).states }
     requires row_long { length row.old ≡ (S.Source.model source.now).states }
@@ -52,11 +53,7 @@ impl<'s, 'm, S: Source> Until<'s, 'm, S> {
         let lower = self.ends(&aim.rule(Rounding::Down), steps);
         let left = possible_marks(self.left);
         let right = possible_marks(self.right);
-        let possible = Until {
-            source: self.source,
-            left: &left.values[..row.len()],
-            right: &right.values[..row.len()],
-        };
+        let possible = Until::of_fronts(self.source, &left, &right);
         let upper = possible.ends(&aim.rule(Rounding::Up), steps);
         read_row(threshold, &lower, &upper, row);
     }

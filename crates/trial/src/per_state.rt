@@ -15,6 +15,7 @@ impl<T: Copy> PerState<T> {
         ensures { (d : T) (s : ℕ) → s < length bytes.now → F.post f (slice_index bytes.now s) (slice_index_or result.values s d) }
     {
         let mut values = [rest; 512];
+        // A value is written at its state's number: after a `zip` over `iter_mut` a proof knows nothing of the values written.
         for (state, byte) in bytes.iter().enumerate() {
             values[state] = f(*byte);
         }

@@ -1,10 +1,10 @@
-ghost use Rattle.std.specs.Prelude.{◌≡◌, ℕ, ◌<◌, ◌≤◌, length, slice_index_or};
+ghost use Rattle.std.specs.Prelude.{◌≡◌, ◌≤◌, length};
 ghost use Rattle.theory.specs.Ends.{held};
 ghost use Rattle.theory.specs.Rounds.{rounds};
-ghost use Rattle.rules.specs.declared.part.Part.{Part as PartValue};
 ghost use Rattle.rounds.specs.Refusals.{most_rounds};
 ghost use Rattle.trial.specs.Queries.{marked};
 ghost use Rattle.trial.specs.Rows.{start_part};
+ghost use Rattle.trial.specs.StateValues.{ValuesOf};
 
 use crate::ends::{advance, start_ends};
 use crate::per_state::PerState;
@@ -22,7 +22,7 @@ pub(crate) fn ends_after<S: Source, R: Rule<Value = Part>>(
 ) -> PerState<Part>
     requires right_long { length right.now ≡ (S.Source.model source.now).states }
     requires few { count ≤ most_rounds }
-    ensures { (d : PartValue) (s : ℕ) → s < (S.Source.model source.now).states → slice_index_or result.values s d ≡ rounds (R.Rule.preferred rule.now) (R.Rule.mixed rule.now) count (S.Source.model source.now) (start_part (marked right.now)) s }
+    ensures { ValuesOf (S.Source.model source.now).states result.values (rounds (R.Rule.preferred rule.now) (R.Rule.mixed rule.now) count (S.Source.model source.now) (start_part (marked right.now))) }
 {
     let mut ends = start_ends(right);
     let mut spare = start_ends(right);
@@ -34,7 +34,7 @@ impl<'s, 'm, S: Source> Until<'s, 'm, S> {
     // The same over the layer that holds the settled states of the until.
     pub(crate) fn ends<R: Rule<Value = Part>>(&self, rule: &R, steps: u64) -> PerState<Part>
         requires { steps ≤ most_rounds }
-        ensures { (d : PartValue) (s : ℕ) → s < (S.Source.model self.now.source.now).states → slice_index_or result.values s d ≡ rounds (R.Rule.preferred rule.now) (R.Rule.mixed rule.now) steps (held (marked self.now.left.now) (marked self.now.right.now) (S.Source.model self.now.source.now)) (start_part (marked self.now.right.now)) s }
+        ensures { ValuesOf (S.Source.model self.now.source.now).states result.values (rounds (R.Rule.preferred rule.now) (R.Rule.mixed rule.now) steps (held (marked self.now.left.now) (marked self.now.right.now) (S.Source.model self.now.source.now)) (start_part (marked self.now.right.now))) }
     {
         ends_after(&self.layer(), rule, self.right, steps)
     }

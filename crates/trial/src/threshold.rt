@@ -1,11 +1,8 @@
 ghost use Rattle.std.specs.Prelude.{◌≡◌};
 ghost use Rattle.formula.specs.Tokens.{meant};
-ghost use Rattle.theory.specs.Formulas.{extremal};
 ghost use Rattle.theory.specs.Verdicts.{fits, harder_end as harder, easier_end as easier};
-ghost use Rattle.trial.specs.Extremals.{maybe_meant};
 ghost use Rattle.trial.specs.VerdictBytes.{read_verdict};
 
-use crate::extremal::Extremal;
 use crate::verdict::Verdict;
 use records::comparison::Comparison;
 use rules::part::Part;
@@ -47,17 +44,5 @@ impl Threshold {
     {
         let (harder, easier) = self.ends_by(u64::from(lower.units()), u64::from(upper.units()));
         Verdict::by(self.fits(harder), self.fits(easier))
-    }
-
-    // Which of the three bounds of an until without steps it is, if it is one.
-    pub(crate) fn extremal(self) -> Option<Extremal>
-        ensures { maybe_meant result ≡ extremal (meant self.comparison) self.bound }
-    {
-        match (self.comparison, self.bound) {
-            (Comparison::Above, 0) => Some(Extremal::OverNone),
-            (Comparison::AtMost, 0) => Some(Extremal::AtMostNone),
-            (Comparison::AtLeast, 1_000_000_000) => Some(Extremal::AtLeastWhole),
-            _ => None,
-        }
     }
 }

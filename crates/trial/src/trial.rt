@@ -14,17 +14,15 @@ use crate::verdict::Verdict;
 use layers::hold::Hold;
 use model::source::Source;
 use records::comparison::Comparison;
+use rounds::run::MOST_ROUNDS;
 use rules::part::Part;
 use rules::rounding::Rounding;
-
-// There are at most so many rounds of one query.
-const MOST_ROUNDS: u64 = 100_000;
-
-// So many units make the whole.
-const WHOLE: u64 = 1_000_000_000;
+use rules::units::WHOLE;
 
 // A trial over a source: it borrows the source, so that no call changes that while the trial lasts, and has a hold layer over
 // it and the query that stands, if one does. What it keeps is that query's.
+// It has no model of its own: clauses name the source itself and all that the trial keeps, so that a refusal is seen to leave
+// every field as it was.
 #[derive(Drop)]
 pub struct Trial<'a, S: Source> {
     layer: Hold<&'a S>,
@@ -59,7 +57,7 @@ impl<'a, S: Source> Trial<'a, S> {
             right,
         };
         self.layer = until.layer();
-        self.query = Some(QueryState::begun(left, right, aim));
+        self.query = Some(QueryState::begun(&until, aim));
         Ok(())
     }
 
@@ -83,7 +81,8 @@ impl<'a, S: Source> Trial<'a, S> {
         Ok(())
     }
 
-    // The lower and the upper end of the query at a state, and how many rounds it has had.
+    // The lower and the upper end of the query at a state, and how many rounds it has had: a tuple of the three, by a rule of
+    // the project.
     pub fn ends(&self, state: usize) -> Result<(Part, Part, u64), TrialFault>
         ensures answer { result ≡ ends_answer (S.Source.model self.now.layer.below.now) (standing (S.Source.model self.now.layer.below.now).states self.now.query) state }
         ensures meaning { EndsMean (S.Source.model self.now.layer.below.now) (standing (S.Source.model self.now.layer.below.now).states self.now.query) state }
@@ -108,7 +107,7 @@ impl<'a, S: Source> Trial<'a, S> {
     {
         let query = self.query.as_ref().ok_or(TrialFault::NoQuery)?;
         let (lower, upper, _) = self.ends(state)?;
-        if bound > WHOLE {
+        if bound > u64::from(WHOLE) {
             return Err(TrialFault::Bound);
         }
         if Aim::from(comparison) != query.aim {

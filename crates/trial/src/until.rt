@@ -1,7 +1,8 @@
-ghost use Rattle.std.specs.Prelude.{◌≡◌, ℕ, ◌<◌, false, not, ◌||◌, length, ◌==◌, slice_index_or};
+ghost use Rattle.std.specs.Prelude.{◌≡◌, ℕ, ◌<◌, false, not, ◌||◌, length, take, ◌==◌, slice_index_or};
 ghost use Rattle.theory.specs.Ends.{stops};
 ghost use Rattle.trial.specs.Queries.{marked};
 
+use crate::per_state::PerState;
 use layers::hold::Hold;
 use model::source::Source;
 
@@ -23,15 +24,29 @@ fn settled(left: u8, right: u8) -> bool
 }
 
 impl<'s, 'm, S: Source> Until<'s, 'm, S> {
+    // The until of the marks that these have for the states of the source.
+    pub(crate) fn of_fronts(source: &'s S, left: &'m PerState<u8>, right: &'m PerState<u8>) -> Self
+        ensures source { result.source.now ≡ source.now }
+        ensures left { result.left.now ≡ take (S.Source.model source.now).states left.now.values }
+        ensures right { result.right.now ≡ take (S.Source.model source.now).states right.now.values }
+    {
+        let states = source.states();
+        Until {
+            source,
+            left: &left.values[..states],
+            right: &right.values[..states],
+        }
+    }
+
     // A layer over the source that holds each state in right and each that is not in left.
     pub(crate) fn layer(&self) -> Hold<&'s S>
         ensures source { result.below.now ≡ self.now.source.now }
         ensures held { (s : ℕ) → s < (S.Source.model self.now.source.now).states → slice_index_or result.held s false ≡ stops (marked self.now.left.now) (marked self.now.right.now) s }
     {
         let mut layer = Hold::over(self.source);
-        for (state, left) in self.left.iter().enumerate() {
-            if settled(*left, self.right[state]) {
-                let _ = layer.hold(state);
+        for (state, (left, right)) in self.left.iter().zip(self.right).enumerate() {
+            if settled(*left, *right) {
+                layer.hold(state).unwrap();
             }
         }
         layer

@@ -1,15 +1,15 @@
 ghost use Rattle.std.specs.Prelude.{◌≡◌, ◌≤◌, length};
+ghost use Rattle.formula.specs.Extremals.{bound_meant};
 ghost use Rattle.formula.specs.Tokens.{meant};
 ghost use Rattle.theory.specs.Formulas.{extremal as extremal_of};
-ghost use Rattle.trial.specs.Extremals.{bound_meant};
 ghost use Rattle.trial.specs.Rows.{sets, bound_sets, bytes, extremal_verdicts, until_verdicts};
 
-use crate::extremal::Extremal;
 use crate::path_rows::possible_marks;
 use crate::per_state::PerState;
 use crate::rows::{constant_row, mark_row};
 use crate::threshold::Threshold;
 use crate::until::Until;
+use formula::extremal::Extremal;
 use model::source::Source;
 
 // The row that the marks on the sure sets and those on the possible sets give under a bound.
@@ -29,18 +29,15 @@ fn bound_row(
 }
 
 impl<'s, 'm, S: Source> Until<'s, 'm, S> {
-    // The row of the until without steps under one of its three bounds.
+    // The row of the until without steps under one of its three bounds. The row's length is asked here and below, since a lent
+    // row says nothing of its source.
     fn extremal_row(&self, bound: Extremal, row: &mut [u8])
         requires { length row.old ≡ (S.Source.model self.now.source.now).states }
         ensures { row.new ≡ bytes (S.Source.model self.now.source.now).states (extremal_verdicts (bound_meant bound) (S.Source.model self.now.source.now) (sets self.now.left.now) (sets self.now.right.now)) }
     {
         let left = possible_marks(self.left);
         let right = possible_marks(self.right);
-        let possible = Until {
-            source: self.source,
-            left: &left.values[..row.len()],
-            right: &right.values[..row.len()],
-        };
+        let possible = Until::of_fronts(self.source, &left, &right);
         let on_sure = self.settled_marks(bound);
         let on_possible = possible.settled_marks(bound);
         bound_row(bound, &on_sure, &on_possible, row);
@@ -51,7 +48,7 @@ impl<'s, 'm, S: Source> Until<'s, 'm, S> {
         requires { length row.old ≡ (S.Source.model self.now.source.now).states }
         ensures { row.new ≡ bytes (S.Source.model self.now.source.now).states (until_verdicts (extremal_of (meant threshold.comparison) threshold.bound) (S.Source.model self.now.source.now) (sets self.now.left.now) (sets self.now.right.now)) }
     {
-        match threshold.extremal() {
+        match Extremal::of(threshold.comparison, threshold.bound) {
             Some(extremal) => self.extremal_row(extremal, row),
             None => constant_row(false, row),
         }

@@ -15,6 +15,6 @@ returns-in-Some c =
     let front : take c.min.result line ≡ take 100 line = ap (λ k. take k line) (omega arith) ∙ take_min 100 line in
     -- and is the piece of the text with this number
     let found : line ≡ piece 10 (n - 1) text = c.piece-line.ensures ∙ ap (λ k. piece 10 k text) below.1 in
-    let shown : marked c.args.field (take c.min.result line) ≡ mark n c.args.field text =
-    ap (marked c.args.field) (front ∙ ap (take 100) found) ∙ sym (cond-false (eqb n 0) [] (marked c.args.field (take 100 (piece 10 (n - 1) text))) (ne_eqb n 0 (λ e. omega arith))) in
+    let shown : marked c.args.at (take c.min.result line) ≡ mark n c.args.at text =
+    ap (marked c.args.at) (front ∙ ap (take 100) found) ∙ sym (cond-false (eqb n 0) [] (marked c.args.at (take 100 (piece 10 (n - 1) text))) (ne_eqb n 0 (λ e. omega arith))) in
     subst (λ t. OnOk c.add_marked.result (string_bytes c.add_marked.new.out ≡ string_bytes c.args.out.now ++ t)) shown c.add_marked.ensures

@@ -9,4 +9,4 @@ returns g c d s h =
     let y = c.args.rule.now in
     -- rounds from a list with the units of the start are rounds from the start
     started_rounds (g.R.Rule.preferred y) (g.R.Rule.mixed y) (g.met.R.Rule.lawful y) (g.S.Source.model x) (g.S.Source.lawful x) (marked c.args.right.now) c.start_ends-ends.result.values d
-    (λ t q. c.start_ends-ends.ensures d t (search rules)) c.args.count s h _ (c.advance.ensures d s h)
+    (λ t q. c.start_ends-ends.ensures d t (search rules)) c.args.count s h _ (c.advance.ensures d d s h)

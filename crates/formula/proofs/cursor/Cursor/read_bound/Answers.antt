@@ -12,4 +12,4 @@ returns-in_err-number c = search (rules, number_refused_after)
 
 -- `whole_bound`: both together are the bound
 pub returns : goal.returns
-returns c = whole_bound _ _ _ _ _ _ c.in_ok-comparison.ensures c.in_ok-number.ensures
+returns c = whole_bound _ _ _ _ _ _ c.in_ok-comparison.ensures (rw (c.to.ensures.same, c.to.ensures.place) at c.in_ok-number.ensures)

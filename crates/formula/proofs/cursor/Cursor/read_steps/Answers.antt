@@ -12,4 +12,4 @@ returns-in_err-number c = search (rules, steps_number_refused)
 
 -- `some_steps`: all three together are the steps
 pub returns : goal.returns
-returns c = some_steps _ _ (sym c.if-not-stands.ensures) c.in_ok-place.ensures c.in_ok-number.ensures
+returns c = some_steps _ _ (sym c.if-not-stands.ensures) (rw (c.to.ensures.same, c.to.ensures.place) at c.in_ok-place.ensures) (rw (c.to-2.ensures.same, c.to-2.ensures.place) at c.in_ok-number.ensures)

@@ -3,7 +3,7 @@ use Rattle.std.proofs.lemmas.Grind.{same_number_lists}
 use Rattle.trial.proofs.state.QueryState.begun.Goals as goal
 
 pub returns : goal.returns
-returns c = record {
+returns g c = record {
   aimed = refl;
   unmoved = refl;
   -- the marks at the front of the room are those given, state by state

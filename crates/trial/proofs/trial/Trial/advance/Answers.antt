@@ -37,7 +37,7 @@ invariant_of-self-2 g c =
       -- both ends have k rounds more over the held layer
       kept = query_kept m flags _ (record {
         layer = keeps.layer;
-        lower = λ d. end_more Down p c.rule-down.result c.rule-down.ensures.rounding c.rule-down.ensures.preference (held left right m) (held_model m flags) lawful keeps.layer (start right) t.rounds k t.lower.values c.advance.new.ends.values d (keeps.lower d) (c.advance.ensures d);
-        upper = λ d. end_more Up p c.rule-up.result c.rule-up.ensures.rounding c.rule-up.ensures.preference (held left right m) (held_model m flags) lawful keeps.layer (start right) t.rounds k t.upper.values c.advance-2.new.ends.values d (keeps.upper d) (c.advance-2.ensures d);
+        lower = λ d. end_more Down p c.rule-down.result c.rule-down.ensures.rounding c.rule-down.ensures.preference (held left right m) (held_model m flags) lawful keeps.layer (start right) t.rounds k t.lower.values c.advance.new.ends.values d (keeps.lower d) (c.advance.ensures d d);
+        upper = λ d. end_more Up p c.rule-up.result c.rule-up.ensures.rounding c.rule-up.ensures.preference (held left right m) (held_model m flags) lawful keeps.layer (start right) t.rounds k t.upper.values c.advance-2.new.ends.values d (keeps.upper d) (c.advance-2.ensures d d);
       });
     }

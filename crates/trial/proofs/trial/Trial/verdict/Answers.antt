@@ -5,8 +5,8 @@ use Rattle.trial.specs.Keeping.{query_in, standing}
 use Rattle.trial.proofs.Queries.{verdict_means, verdict_answered, kept_answered, same_aims}
 use Rattle.trial.proofs.trial.Trial.verdict.Goals as goal
 
-pub returns-then-bound-gt-WHOLE-clause-meaning : goal.returns-then-bound-gt-WHOLE-clause-meaning
-returns-then-bound-gt-WHOLE-clause-meaning g c =
+pub returns-then-bound-from-clause-meaning : goal.returns-then-bound-from-clause-meaning
+returns-then-bound-from-clause-meaning g c =
     let x = c.args.self.now.layer.below.now in
     let m = g.S.Source.model x in
     verdict_means m (g.S.Source.lawful x) (standing m.states c.args.self.now.query) c.args.state c.args.comparison c.args.bound
@@ -27,6 +27,6 @@ returns g c =
     record {
       -- the verdict is read off both ends of the query that stands
       answer = ap (λ (v : Verdict). Ok v) c.read_off.ensures
-          ∙ verdict_answered m s c.args.comparison c.args.bound o q e read.there c.if-bound-gt-WHOLE.false (same_aims (aim_for c.args.comparison) q.aim agree) _ _ read.lower read.upper;
+          ∙ verdict_answered m s c.args.comparison c.args.bound o q e read.there (rw c.from.ensures at c.if-bound-from.false) (same_aims (aim_for c.args.comparison) q.aim agree) _ _ read.lower read.upper;
       meaning = verdict_means m (g.S.Source.lawful x) o s c.args.comparison c.args.bound;
     }

@@ -1,51 +1,55 @@
-use Rattle.std.proofs.Common.{◌+◌, Bool, List, sym, ap, ◌∙◌, subst, arith, Bor}
-use Rattle.layers.specs.declared.hold.Hold.{Hold}
+use Rattle.std.proofs.Common.{◌≡◌, sym, arith}
+use Rattle.std.specs.Iterator.Adapters.{enumerate_source, enumerate_count, zip_first, zip_second}
+use Rattle.std.specs.Slice.Iter.{iter_rest}
 use Rattle.theory.specs.Ends.{stops}
 use Rattle.trial.specs.Queries.{marked}
-use Rattle.trial.proofs.Flags.{Partly, partly_none, partly_set, partly_skip, held_set}
+use Rattle.trial.proofs.Flags.{partly_none, partly_set, partly_skip, next_at}
 use Rattle.trial.proofs.until.Until.layer.Goals as goal
-use Rattle.trial.proofs.until.Until.layer.Goals.{then-settled, else-settled}
 
+-- no flag is set at first
 pub loop-state-init : goal.loop-state-init
 loop-state-init g c =
     let until = c.args.self.now in
-    let stop = stops (marked until.left.now) (marked until.right.now) in
+    let zero : enumerate_count c.into_iter-state-iterator.result ≡ 0 = cc in
     record {
-      over = ap (λ (r : Bor g.row.S.Denot). r.now) c.over-layer.ensures.source;
-      -- no flag is set at first
-      flags = subst (λ (flags : List Bool). Partly stop 0 flags) (sym c.over-layer.ensures.flags) (partly_none stop);
+      over = (cc);
+      flags = rw (zero, c.over-layer.ensures.flags) (partly_none (stops (marked until.left.now) (marked until.right.now)));
+      left_rest = rw zero (cc);
+      right_rest = rw zero (cc);
     }
 
+-- a settled state is held, and its flag set
+pub loop-state-preserved-then-settled : goal.loop-state-preserved-then-settled
+loop-state-preserved-then-settled g c =
+    let until = c.args.self.now in
+    let step = c.in-Some.ensures.steps in
+    let k = c.loop-state.invariant in
+    let state = enumerate_count c.loop-state.state-iterator in
+    let pairs = enumerate_source c.next.new.self in
+    let left = next_at until.left.now state {rest = iter_rest (zip_first pairs)} k.left_rest step.0.0 in
+    let right = next_at until.right.now state {rest = iter_rest (zip_second pairs)} k.right_rest step.0.1 in
+    let few = (g.S.Source.lawful until.source.now).few_states in
+    let held = rw c.unwrap.ensures at c.hold.ensures.ran in
+    record {
+      over = (cc);
+      flags = rw (step.2, held.flags, step.1) (partly_set _ state _ k.flags (omega (arith, left.0, until.left_long, few)) (rw (left.1, right.1) (sym c.if-settled.ensures)));
+      left_rest = rw step.2 left.2;
+      right_rest = rw step.2 right.2;
+    }
+
+-- another is not
 pub loop-state-preserved : goal.loop-state-preserved
 loop-state-preserved g c =
     let until = c.args.self.now in
-    let i = c.loop-state.state in
-    let stop = stops (marked until.left.now) (marked until.right.now) in
-    let flags = c.loop-state.layer.held in
-    let below = c.loop-state.invariant.over in
-    let part = c.loop-state.invariant.flags in
-    let taken = c.loop-state-test.true in
-    let long = until.left_long in
-    let few = (g.S.Source.lawful until.source.now).few_states in
-    let under : (l : Hold (Bor g.row.S.Denot)) → Bor g.row.S.Denot = λ l. l.below in
-    let flag : (l : Hold (Bor g.row.S.Denot)) → List Bool = λ l. l.held in
-    elim c.if-settled.branch [
-      | then-settled w ↦ record {
-        over = ap (λ l. (under l).now) w.layer-is ∙ ap (λ (r : Bor g.row.S.Denot). r.now) w.hold.ensures.source ∙ below;
-        -- a settled state is held, and its flag set
-        flags = subst (Partly stop (i + 1))
-            (sym (ap flag w.layer-is ∙ held_set (g.S.Source.model c.loop-state.layer.below.now) i flags w.hold.new.self.held w.hold.result (omega (arith, ap (λ (y : g.row.S.Denot). (g.S.Source.model y).states) below)) w.hold.ensures.ran))
-            (partly_set stop i flags part (omega arith) (sym w.if-settled.ensures));
-      }
-      | else-settled w ↦ record {
-        over = ap (λ l. (under l).now) w.layer-is ∙ below;
-        -- another is not
-        flags = subst (Partly stop (i + 1)) (sym (ap flag w.layer-is)) (partly_skip stop i flags part (sym w.if-settled.ensures));
-      }
-    ]
-
-pub returns : goal.returns
-returns g c =
-    let all = c.loop-state-test.false in
-    let long = c.args.self.now.left_long in
-    record { source = c.loop-state.invariant.over; held = λ s h. c.loop-state.invariant.flags.below s (omega arith) }
+    let step = c.in-Some.ensures.steps in
+    let k = c.loop-state.invariant in
+    let state = enumerate_count c.loop-state.state-iterator in
+    let pairs = enumerate_source c.next.new.self in
+    let left = next_at until.left.now state {rest = iter_rest (zip_first pairs)} k.left_rest step.0.0 in
+    let right = next_at until.right.now state {rest = iter_rest (zip_second pairs)} k.right_rest step.0.1 in
+    record {
+      over = k.over;
+      flags = rw step.2 (partly_skip (stops (marked until.left.now) (marked until.right.now)) state c.loop-state.layer.held k.flags (rw (left.1, right.1) (sym c.if-settled.ensures)));
+      left_rest = rw step.2 left.2;
+      right_rest = rw step.2 right.2;
+    }

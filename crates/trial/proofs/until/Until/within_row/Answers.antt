@@ -21,22 +21,22 @@ returns g c =
     let v = sets until.left.now in
     let w = sets until.right.now in
     let p = preference_of (aim_for c.args.threshold.comparison) in
-    let n = length c.args.row.now in
     let lefts = c.possible_marks-left.result.values in
     let rights = c.possible_marks-right.result.values in
-    let left = marked (take n lefts) in
-    let right = marked (take n rights) in
-    let long = c.requires.row_long in
+    let left = marked (take m.states lefts) in
+    let right = marked (take m.states rights) in
     let left_long = until.left_long in
     let right_long = until.right_long in
+    let of_fronts = c.of_fronts-possible.ensures in
+    let found = rw (of_fronts.source, of_fronts.left, of_fronts.right) at c.ends-upper.ensures in
     let k = c.args.steps in
     let d = part_of 0 in
     -- the row is read off the lower ends over what is sure, and the upper ones over what is possible
     row_read m.states c.args.threshold.comparison c.args.threshold.bound d c.ends-lower.result.values c.ends-upper.result.values
     (λ q. lower q v.sure w.sure k m) (λ q. upper q v.possible w.possible k m)
     (λ s h. ends_units c.rule.result Down p c.rule.ensures.rounding (c.rule.ensures.preference ∙ ap preference_of c.from-aim.ensures) (held v.sure w.sure m) (held_lawful v.sure w.sure m l) w.sure k s h _ (c.ends-lower.ensures d s h))
-    (λ s h. ends_units c.rule-2.result Up p c.rule-2.ensures.rounding (c.rule-2.ensures.preference ∙ ap preference_of c.from-aim.ensures) (held left right m) (held_lawful left right m l) right k s h _ (c.ends-upper.ensures d s h)
+    (λ s h. ends_units c.rule-2.result Up p c.rule-2.ensures.rounding (c.rule-2.ensures.preference ∙ ap preference_of c.from-aim.ensures) (held left right m) (held_lawful left right m l) right k s h _ (found d s h)
     ∙ held_alike m l s h (prefers_number p) mix_up (numbers_lawful Up p) left v.possible right w.possible
-    (λ t q. marked_front n lefts v.possible (λ u r. c.possible_marks-left.ensures u (omega arith)) t (omega arith))
-    (λ t q. marked_front n rights w.possible (λ u r. c.possible_marks-right.ensures u (omega arith)) t (omega arith)) k)
-    c.read_row.new.row n long (c.read_row.ensures d)
+    (λ t q. marked_front m.states lefts v.possible (λ u r. c.possible_marks-left.ensures u (omega arith)) t q)
+    (λ t q. marked_front m.states rights w.possible (λ u r. c.possible_marks-right.ensures u (omega arith)) t q) k)
+    c.read_row.new.row (length c.args.row.now) c.requires.row_long (c.read_row.ensures d)

@@ -1,8 +1,8 @@
 -- The three bounds that an until without steps may have, as the code names them.
 use Rattle.std.specs.Prelude.{Some, None, Option}
 use Rattle.theory.specs.WithoutSteps.{Extremal, over_none, at_most_none, at_least_whole}
-use Rattle.trial.specs.declared.extremal.Extremal.{Extremal as Code}
-use Rattle.trial.specs.declared.extremal.Extremal.TheVariants.{OverNone, AtMostNone, AtLeastWhole}
+use Rattle.formula.specs.declared.extremal.Extremal.{Extremal as Code}
+use Rattle.formula.specs.declared.extremal.Extremal.TheVariants.{OverNone, AtMostNone, AtLeastWhole}
 
 -- the bound that the code's own stands for
 abbrev pub bound_meant : Code → Extremal

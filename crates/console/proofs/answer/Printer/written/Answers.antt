@@ -3,7 +3,7 @@ use Rattle.std.proofs.lemmas.List.{take_at}
 use Rattle.console.specs.declared.command.Form.TheVariants.{Text}
 use Rattle.console.specs.Replies.{printed}
 use Rattle.console.proofs.Returning.{accepted}
-use Rattle.console.proofs.answer.write_reply.Goals as goal
+use Rattle.console.proofs.answer.Printer.written.Goals as goal
 
 pub returns-in-Ok : goal.returns-in-Ok
 returns-in-Ok c =
