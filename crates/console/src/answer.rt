@@ -87,8 +87,8 @@ impl Printer {
         }
     }
 
-    // The reply on a text. The tables write a text in the call that loads it, and a listing is made of tables that are
-    // loaded, so this is a choice between two functions.
+    // The reply on a text. Model text is made by the call of the tables that loads and writes, which promises that the
+    // bytes that were read come out; a listing is made of loaded tables.
     fn text(&self, text: &[u8]) -> Result<Reply, AllocError>
         ensures { IfOk result (λ a. TextAnswer self.now.form text.now (answer_of a)) }
     {

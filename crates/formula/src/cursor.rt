@@ -1,8 +1,8 @@
 ghost use Rattle.std.specs.Prelude.{◌≡◌, ◌≤◌, length};
 ghost use Rattle.formula.specs.Tokens.{has, JustReads, WordReads};
 
-// A place in a text: that of one of its bytes, or its end. Readers answer bare places, which faults tell, and a cursor
-// goes to one where reading goes on.
+// A place in a text: that of one of its bytes, or its end. Readers answer the place that they came to, which a
+// fault tells as it is; a cursor goes on to it by `to`.
 #[derive(Clone, Copy)]
 pub(crate) struct Cursor<'a> {
     pub text: &'a [u8],

@@ -168,7 +168,7 @@ fn marks_that_never_settle(rt: HostRuntime) -> Result<(), Fail> {
     Ok(())
 }
 
-// The number that rounds with lists of these lengths are refused with, or 0.
+// The number that rounds with lists of these lengths are refused with, or 0, the value expected where nothing is refused.
 fn refusal(rt: &impl Abort, first: usize, second: usize, count: u64) -> Result<u8, Fail> {
     let source = Ladder::new(3, 4, 3)?;
     let rule = Marks {
@@ -211,7 +211,7 @@ fn edges_of_rounds(rt: HostRuntime) -> Result<(), Fail> {
     Ok(())
 }
 
-// The number that a part of so many units is refused with, or 0.
+// The number that a part of so many units is refused with, or 0, the value expected where nothing is refused.
 fn part_refusal(units: u32) -> u8 {
     match Part::try_from(units) {
         Ok(_) => 0,

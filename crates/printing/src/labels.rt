@@ -5,6 +5,7 @@ use model::labels::Labels;
 use std::fmt;
 
 // A set of labels as a text writes it: its letters one after another, or `-` for none.
+// The tables put letters into a page of lent bytes, which is no writer, and so have this of their own.
 #[derive(Clone, Copy)]
 pub(crate) struct Letters<'a>(pub &'a Labels);
 

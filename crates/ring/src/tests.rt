@@ -88,7 +88,7 @@ fn tables_and_ladder_under_layers(rt: HostRuntime) -> Result<(), Fail> {
     Ok(())
 }
 
-// The number that these three are refused with, or 0.
+// The number that these three are refused with, or 0, the value expected where nothing is refused.
 fn refusal(rungs: usize, denominator: u32, weight: u32) -> u8 {
     match Ladder::new(rungs, denominator, weight) {
         Ok(_) => 0,

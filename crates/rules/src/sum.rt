@@ -17,7 +17,8 @@ pub(crate) fn weighted_sum(denominator: u32, row: &[Branch], values: &[Part]) ->
     ensures bound { result ≤ whole * denominator }
 {
     let mut sum = 0;
-    // a loop over the row's branches, since it knows of each that its target is in range
+    // A loop over the row's branches, by a rule of the project; of a chain that maps and sums them, what the closure gives
+    // for a branch stays open.
     for branch in row {
         sum += branch.weight as u64 * values[branch.target].units as u64;
     }

@@ -9,7 +9,7 @@ use model::branch::Branch;
 use model::labels::Labels;
 
 // A lent buffer that is filled from its front, and the place of the next byte. What no longer fits is left out. It
-// implements no writer of the library, since a piece put by one may answer an error that says nothing of the room.
+// implements no writer of the library: `write!` answers a result whose error a proof cannot exclude, room or not.
 #[derive(Drop)]
 pub(crate) struct Page<'a> {
     out: &'a mut [u8],
@@ -38,7 +38,7 @@ impl Page<'_> {
         }
     }
 
-    // Bytes that are given.
+    // Bytes that are given, one after another, since those that do not fit are left out.
     pub(crate) fn bytes(&mut self, bytes: &[u8])
         ensures { Put bytes.now self.old self.new }
     {

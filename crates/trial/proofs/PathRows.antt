@@ -1,5 +1,5 @@
 -- Rows of path formulas: marks at the front of a list, the model of a layer, ends in parts, and a row that is read off them.
-use Rattle.std.proofs.Common.{◌≡◌, ℕ, ◌<◌, Bool, false, eqb, List, get_or, take, sym, refl, ap, ◌∙◌, subst, inl, inr, get_or-take}
+use Rattle.std.proofs.Common.{◌≡◌, ℕ, ◌<◌, Bool, false, eqb, List, get_or, take, refl, ap, ◌∙◌, subst, inl, inr, get_or-take}
 use Rattle.std.proofs.lemmas.Bool.{cases_Bool}
 use Rattle.model.specs.Mdp.{Mdp, Lawful, hold}
 use Rattle.layers.specs.Holds.{held_model}
@@ -17,7 +17,7 @@ use Rattle.rules.specs.declared.rounding.Rounding.{Rounding}
 use Rattle.rules.specs.declared.parts.Parts.{Parts}
 use Rattle.rules.specs.Parts.{units_of, prefers_number, prefers_part, mix_rounded, in_parts}
 use Rattle.rules.specs.Values.{told}
-use Rattle.rules.specs.PartsLemmas.{part_same, numbers_lawful, parts_rounds}
+use Rattle.rules.specs.PartsLemmas.{numbers_lawful, parts_rounds}
 use Rattle.rounds.proofs.Lists.{listed_same}
 use Rattle.formula.specs.Tokens.{meant}
 use Rattle.trial.specs.Aims.{preference_of, aim_for}
@@ -39,14 +39,13 @@ pub rounds_over : (preferred : Part → Part → Bool) (mix : ℕ → List (ℕ 
 rounds_over preferred mix v m m' e k s x = subst (λ (z : Mdp). s < z.states → x ≡ rounds preferred mix k z v s) e
 
 -- the start in parts has the units of the start
-start_units : (set : ℕ → Bool) (s : ℕ) → units_of (start_part set s) ≡ start set s
+pub start_units : (set : ℕ → Bool) (s : ℕ) → units_of (start_part set s) ≡ start set s
 start_units set s = elim (cases_Bool (set s)) [ inl e ↦ rw e | inr e ↦ rw e ]
 
--- what rounds make of a list with those units they make of the start
+-- what rounds make of a list that tells the start they make of the start
 pub started_rounds : (preferred : Part → Part → Bool) (mix : ℕ → List (ℕ × Part) → Part) → RuleLaws preferred mix → (m : Mdp) → Lawful m → (set : ℕ → Bool) (ends : List Part) (d : Part) →
-    ((s : ℕ) → s < m.states → units_of (get_or ends s d) ≡ start set s) → (k s : ℕ) → s < m.states → (x : Part) → x ≡ rounds preferred mix k m (told ends d) s → x ≡ rounds preferred mix k m (start_part set) s
-started_rounds preferred mix laws m l set ends d e k s h x f =
-    f ∙ rounds_same preferred mix laws m l (told ends d) (start_part set) (λ t q. part_same (get_or ends t d) (start_part set t) (e t q ∙ sym (start_units set t))) k s h
+    ((s : ℕ) → s < m.states → get_or ends s d ≡ start_part set s) → (k s : ℕ) → s < m.states → (x : Part) → x ≡ rounds preferred mix k m (told ends d) s → x ≡ rounds preferred mix k m (start_part set) s
+started_rounds preferred mix laws m l set ends d e k s h x f = f ∙ rounds_same preferred mix laws m l (told ends d) (start_part set) e k s h
 
 -- ends in parts have the units of ends in numbers, under a rule with this rounding and preference
 pub ends_units : (x : Parts) (r : Rounding) (p : Preference) → x.rounding ≡ r → x.preference ≡ p → (m : Mdp) → Lawful m → (set : ℕ → Bool) (k s : ℕ) → s < m.states →

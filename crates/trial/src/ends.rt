@@ -1,12 +1,11 @@
-ghost use Rattle.std.specs.Prelude.{◌≡◌, ℕ, ◌<◌, ◌≤◌, length, slice_index_or};
-ghost use Rattle.theory.specs.Ends.{start};
+ghost use Rattle.std.specs.Prelude.{◌≡◌, ◌≤◌, length};
 ghost use Rattle.theory.specs.Mixes.{whole};
 ghost use Rattle.theory.specs.Rounds.{rounds as rounds_of};
-ghost use Rattle.rules.specs.declared.part.Part.{Part as PartValue};
-ghost use Rattle.rules.specs.Parts.{part_of, units_of};
+ghost use Rattle.rules.specs.Parts.{part_of};
 ghost use Rattle.rules.specs.Values.{told};
 ghost use Rattle.rounds.specs.Refusals.{most_rounds};
 ghost use Rattle.trial.specs.Queries.{marked};
+ghost use Rattle.trial.specs.Rows.{start_part};
 ghost use Rattle.trial.specs.StateValues.{ValuesOf};
 
 use crate::per_state::PerState;
@@ -27,7 +26,7 @@ fn part(units: u32) -> Part
 // Both ends begin with the whole at the states with the byte 1 and 0 elsewhere.
 pub(crate) fn start_ends(right: &[u8]) -> PerState<Part>
     requires { length right.now ≤ 512 }
-    ensures { (d : PartValue) (s : ℕ) → s < length right.now → units_of (slice_index_or result.values s d) ≡ start (marked right.now) s }
+    ensures { ValuesOf (length right.now) result.values (start_part (marked right.now)) }
 {
     let (all, none) = (part(WHOLE), part(0));
     PerState::of(right, none, |byte| if byte == 1 { all } else { none })

@@ -14,7 +14,8 @@ use crate::until::Until;
 use model::source::Source;
 use rules::rounding::Rounding;
 
-// The marks of the states where a part is not a no. Of a part's byte, 1 is sure and any but 0 is possible.
+// The marks of the states where a part is not a no. Of a part's byte, 1 is sure and any but 0 is possible:
+// a part may have any byte, so a byte is compared and not turned into a `Verdict`.
 pub(crate) fn possible_marks(part: &[u8]) -> PerState<u8>
     requires { length part.now ≤ 512 }
     ensures { (s : ℕ) → s < length part.now → marked result.values s ≡ (sets part.now).possible s }
@@ -22,8 +23,8 @@ pub(crate) fn possible_marks(part: &[u8]) -> PerState<u8>
     PerState::of(part, 0, |byte| u8::from(byte != 0))
 }
 
-// The row of a next under a comparison with a bound. A row's length is asked at each call, since a lent row says nothing of
-// its source.
+// The row of a next under a comparison with a bound. A row's length is asked at each call: a row is lent for writing beside
+// a source of its own, and is no field of an until, which only reads.
 pub(crate) fn next_row<S: Source>(source: &S, threshold: Threshold, part: &[u8], row: &mut [u8])
     requires part_long { length part.now ≡ (S.Source.model source.now).states }
     requires row_long { length row.old ≡ (S.Source.model source.now).states }

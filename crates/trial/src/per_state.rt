@@ -1,6 +1,9 @@
 ghost use Rattle.std.specs.Prelude.{◌≡◌, ℕ, ◌<◌, ◌≤◌, length, slice_index, slice_index_or};
 
+use std::array;
+
 // A value for each state that a source may have. The room is fixed, since the making of a trial cannot fail and wants no memory.
+// A list of bytes or a row is asked to have at most as many places where it meets these values.
 #[derive(Drop)]
 pub(crate) struct PerState<T> {
     pub(crate) values: [T; 512],
@@ -14,11 +17,13 @@ impl<T: Copy> PerState<T> {
         requires callable { F.IsAlwaysCallable f }
         ensures { (d : T) (s : ℕ) → s < length bytes.now → F.post f (slice_index bytes.now s) (slice_index_or result.values s d) }
     {
-        let mut values = [rest; 512];
-        // A value is written at its state's number: after a `zip` over `iter_mut` a proof knows nothing of the values written.
-        for (state, byte) in bytes.iter().enumerate() {
-            values[state] = f(*byte);
-        }
+        // The closure's own clauses say what it gives at a state that has a byte.
+        let values = array::from_fn(
+            |state|
+                requires { F.IsAlwaysCallable f }
+                ensures { state < length bytes.entry.now → F.post f (slice_index bytes.entry.now state) result }
+            { bytes.get(state).map_or(rest, |byte| f(*byte)) },
+        );
         PerState { values }
     }
 

@@ -51,7 +51,7 @@ pub(crate) fn label_row<S: Source>(source: &S, letter: usize, row: &mut [u8])
 }
 
 // The row of a negation: a yes where the part is a no. Here and in a conjunction, of a part's byte 1 is sure and any but 0 is
-// possible.
+// possible: a part may have any byte, so a byte is compared and not turned into a `Verdict`.
 pub(crate) fn negate_row(part: &[u8], row: &mut [u8])
     requires { length part.now ≡ length row.old }
     ensures { row.new ≡ bytes (length row.old) (negated (sets part.now)) }

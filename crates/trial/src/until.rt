@@ -1,6 +1,7 @@
-ghost use Rattle.std.specs.Prelude.{◌≡◌, ℕ, ◌<◌, false, not, ◌||◌, length, take, ◌==◌, slice_index_or};
+ghost use Rattle.std.specs.Prelude.{◌≡◌, not, ◌||◌, length, take, ◌==◌};
 ghost use Rattle.theory.specs.Ends.{stops};
 ghost use Rattle.trial.specs.Queries.{marked};
+ghost use Rattle.trial.specs.StateValues.{ValuesOf};
 
 use crate::per_state::PerState;
 use layers::hold::Hold;
@@ -41,7 +42,7 @@ impl<'s, 'm, S: Source> Until<'s, 'm, S> {
     // A layer over the source that holds each state in right and each that is not in left.
     pub(crate) fn layer(&self) -> Hold<&'s S>
         ensures source { result.below.now ≡ self.now.source.now }
-        ensures held { (s : ℕ) → s < (S.Source.model self.now.source.now).states → slice_index_or result.held s false ≡ stops (marked self.now.left.now) (marked self.now.right.now) s }
+        ensures held { ValuesOf (S.Source.model self.now.source.now).states result.held (stops (marked self.now.left.now) (marked self.now.right.now)) }
     {
         let mut layer = Hold::over(self.source);
         for (state, (left, right)) in self.left.iter().zip(self.right).enumerate() {

@@ -29,12 +29,14 @@ fn bound_row(
 }
 
 impl<'s, 'm, S: Source> Until<'s, 'm, S> {
-    // The row of the until without steps under one of its three bounds. The row's length is asked here and below, since a lent
-    // row says nothing of its source.
+    // The row of the until without steps under one of its three bounds. The row's length is asked here and below: a row is
+    // lent for writing beside a source of its own, and is no field of an until, which only reads.
     fn extremal_row(&self, bound: Extremal, row: &mut [u8])
         requires { length row.old ≡ (S.Source.model self.now.source.now).states }
         ensures { row.new ≡ bytes (S.Source.model self.now.source.now).states (extremal_verdicts (bound_meant bound) (S.Source.model self.now.source.now) (sets self.now.left.now) (sets self.now.right.now)) }
     {
+        // The until of what is possible borrows both lists of marks, so they live here: a type that owned them would still want
+        // a `let` for itself and one for its until.
         let left = possible_marks(self.left);
         let right = possible_marks(self.right);
         let possible = Until::of_fronts(self.source, &left, &right);

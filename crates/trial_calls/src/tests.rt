@@ -124,7 +124,7 @@ const ANSWERED: Question<'static> = Question {
     bound: 0,
 };
 
-// The number that a question on THIRDS is refused with, or 0.
+// The number that a question on THIRDS is refused with, or 0, the value expected where nothing is refused.
 fn refusal(rt: &HostRuntime, question: Question<'_>) -> Result<u8, Fail> {
     let source = table(rt, THIRDS)?;
     match question.ask(&source) {

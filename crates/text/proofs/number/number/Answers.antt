@@ -21,12 +21,3 @@ unwrap-requires c =
     search rules
 
 -- to its amount
-pub returns : goal.returns
-returns c =
-    let field = c.args.field.now in
-    let lawful : lawful_number field ≡ true = checked _ _ _ c.check_lawful.ensures (search rules) in
-    let same = MatchResult-at_ok _ _ _ c.unwrap-digits.ensures c.from_utf8.ensures.cases in
-    let e = number_parsed field _ _ same.0 c.parse.ensures.value.0 (number_from field lawful) in
-    let u = c.unwrap.ensures in
-    let t : c.unwrap.result ≡ amount field = cc in
-    ap Ok t ∙ sym (cond-true (lawful_number field) _ _ lawful)

@@ -3,9 +3,6 @@ use Rattle.formula.proofs.Signs.{word_more, word_refused}
 use Rattle.formula.proofs.cursor.Cursor.expect_all.Goals as goal
 
 -- `word_more`: the front that stands there grows by the byte that was read
-pub loop-byte-preserved : goal.loop-byte-preserved
-loop-byte-preserved c = search (rules, word_more)
-
 -- `word_refused`: a byte that is refused behind the front refuses the word
 pub returns-in_err-at : goal.returns-in_err-at
 returns-in_err-at c = search (rules, word_refused)

@@ -12,7 +12,3 @@ loop-i-preserved g c =
     copy_more _ r c.loop-i.branch-items c.loop-i.i no_branch c.branch-branch.result there c.loop-i-test.true c.loop-i.invariant c.branch-branch.ensures
 
 -- behind the front, the slice is as it was
-pub returns : goal.returns
-returns g c =
-    let r = row (g.Self.Source.model c.args.self.now) c.args.state c.args.choice in
-    record { count = c.branches-count.ensures; written = copy_front c.args.into.now r c.loop-i.branch-items c.loop-i.i c.min-room.result (omega arith) (omega arith) c.loop-i.invariant }

@@ -28,10 +28,3 @@ loop-choice-preserved g c d =
     ] in
     best_more (g.R.Rule.preferred y) (mixed (g.R.Rule.mixed y) m (told c.args.self.now.values.now d)) (m.choices c.args.state) c.loop-choice.choice best next c.if-not-prefers.best
     (search rules) (c.mix_choice-next.ensures d) kept ∙ c.loop-choice.invariant d
-
-pub returns : goal.returns
-returns g c d =
-    let m = g.S.Source.model c.args.self.now.source.now in
-    let y = c.args.self.now.rule.now in
-    sym (best_all (g.R.Rule.preferred y) (mixed (g.R.Rule.mixed y) m (told c.args.self.now.values.now d)) (m.choices c.args.state) c.loop-choice.choice c.loop-choice.best (search rules))
-    ∙ c.loop-choice.invariant d

@@ -1,4 +1,6 @@
-use Rattle.std.proofs.Common.{◌≡◌, sym, arith}
+use Rattle.std.proofs.Common.{◌≡◌, false, sym, ◌∙◌, get_or, arith}
+use Rattle.std.proofs.lemmas.Grind.{common_steps}
+use Rattle.std.proofs.lemmas.List.{get_or_default}
 use Rattle.std.specs.Iterator.Adapters.{enumerate_source, enumerate_count, zip_first, zip_second}
 use Rattle.std.specs.Slice.Iter.{iter_rest}
 use Rattle.theory.specs.Ends.{stops}
@@ -38,18 +40,11 @@ loop-state-preserved-then-settled g c =
     }
 
 -- another is not
-pub loop-state-preserved : goal.loop-state-preserved
-loop-state-preserved g c =
+-- at the end the flags of all states are those of the settled ones
+pub returns-clause-held : goal.returns-clause-held
+returns-clause-held g c d s h =
     let until = c.args.self.now in
-    let step = c.in-Some.ensures.steps in
+    let few = (g.S.Source.lawful until.source.now).few_states in
     let k = c.loop-state.invariant in
-    let state = enumerate_count c.loop-state.state-iterator in
-    let pairs = enumerate_source c.next.new.self in
-    let left = next_at until.left.now state {rest = iter_rest (zip_first pairs)} k.left_rest step.0.0 in
-    let right = next_at until.right.now state {rest = iter_rest (zip_second pairs)} k.right_rest step.0.1 in
-    record {
-      over = k.over;
-      flags = rw step.2 (partly_skip (stops (marked until.left.now) (marked until.right.now)) state c.loop-state.layer.held k.flags (rw (left.1, right.1) (sym c.if-settled.ensures)));
-      left_rest = rw step.2 left.2;
-      right_rest = rw step.2 right.2;
-    }
+    let held : get_or c.loop-state.layer.held s false ≡ stops (marked until.left.now) (marked until.right.now) s = grind (arith, common_steps) in
+    get_or_default _ s d false (omega (arith, k.flags.long, few)) ∙ held
