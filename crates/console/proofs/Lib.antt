@@ -1,3 +1,2 @@
 pub mod Ladders
 pub mod Returning
-pub mod Spellings

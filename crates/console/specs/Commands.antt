@@ -1,21 +1,36 @@
 -- What the words of the command line ask for.
-use Rattle.std.specs.Prelude.{ℕ, Bool, cond, ◌&&◌, List, [], length, Some, None, Ok, Err, codes, Option, Result, ◌==◌, nat_lt, slice_index_or}
-use Rattle.text.specs.Fields.{lawful_number, amount}
+use Rattle.std.specs.Prelude.{ℕ, Bool, cond, ◌&&◌, List, [], ◌∷◌, length, Some, None, Ok, Err, codes, Option, Result, ◌==◌, nat_lt, slice_index_or, ok_or}
+use Rattle.std.specs.Result.{result_map_both}
+use Rattle.std.specs.Str.{bytes_eq}
+use Rattle.rules.specs.declared.preference.Preference.{Preference}
+use Rattle.rules.specs.declared.preference.Preference.TheVariants.{Greater, Lesser}
+use Rattle.rules.specs.declared.rounding.Rounding.TheVariants.{Down, Up}
+use Rattle.text.specs.Cuts.{piece, pieces}
+use Rattle.text.specs.Fields.{lawful_number, amount, long_number_read}
 use Rattle.text.specs.Words.{same}
+use Rattle.rounds_text.specs.declared.kind.Kind.{Kind}
+use Rattle.rounds_text.specs.declared.kind.Kind.TheVariants.{Parts, Marks}
+use Rattle.console.specs.declared.command.Form.{Form}
+use Rattle.console.specs.declared.command.Form.TheVariants.{Listing, Text}
 use Rattle.console.specs.declared.command.Verb.{Verb}
 use Rattle.console.specs.declared.command.Verb.TheVariants as verb
 use Rattle.console.specs.declared.command.ModelName.{ModelName}
 use Rattle.console.specs.declared.command.ModelName.TheVariants.{File, Ladder}
-use Rattle.console.specs.declared.command.Mistake.TheVariants.{NoCommand, NoSuchCommand, NoModel, TooMany, NoLadder}
-use Rattle.console.specs.declared.command.Form.TheVariants.{Listing, Text}
 use Rattle.console.specs.declared.command.Mistake.{Mistake}
+use Rattle.console.specs.declared.command.Mistake.TheVariants.{NoCommand, NoSuchCommand, NoModel, NoFormula, NoCalls, TooMany, NoLadder}
+use Rattle.console.specs.declared.command.Mistake.TheVariants as mistake
+use Rattle.console.specs.declared.command.RoundsMistake.TheVariants.{TooFew, NoRule, NoPreference, NoCount}
 use Rattle.console.specs.declared.command.Command.{Command}
-use Rattle.console.specs.declared.command.Command.TheVariants.{Help, Print}
-use Rattle.text.specs.Cuts.{piece, pieces}
+use Rattle.console.specs.declared.command.Command.TheVariants.{Help, Print, Rounds, Formula, Trial}
 
 -- the command that a word spells: `show` prints a listing, and `write` the model text
 abbrev pub verb_of : List ℕ → Option Verb
-verb_of w = cond (same w (codes "show")) (Some (verb.Print Listing)) (cond (same w (codes "write")) (Some (verb.Print Text)) (cond (same w (codes "help")) (Some verb.Help) None))
+verb_of w =
+    cond (bytes_eq w (codes "show")) (Some (verb.Print Listing))
+    (cond (bytes_eq w (codes "write")) (Some (verb.Print Text))
+    (cond (bytes_eq w (codes "rounds")) (Some verb.Rounds)
+    (cond (bytes_eq w (codes "formula")) (Some verb.Formula)
+    (cond (bytes_eq w (codes "trial")) (Some verb.Trial) (cond (bytes_eq w (codes "help")) (Some verb.Help) None)))))
 
 -- is a model's name that of a ladder? It begins with `ladder:` (a colon is 58)
 abbrev pub names_ladder : List ℕ → Bool
@@ -40,32 +55,74 @@ ladder_named name = cond (length (pieces 58 name) == 4) (ladder_of (part 1 name)
 abbrev pub model_named : List ℕ → Option ModelName
 model_named name = cond (names_ladder name) (ladder_named name) (Some File)
 
--- what one word asks for
-abbrev pub alone : Option Verb → Result Command Mistake
-alone None = Err NoSuchCommand
-alone (Some verb.Help) = Ok Help
-alone (Some (verb.Print form)) = Err NoModel
+-- the rule that a word names
+abbrev pub kind_of : List ℕ → Option Kind
+kind_of w = cond (bytes_eq w (codes "down")) (Some (Parts Down)) (cond (bytes_eq w (codes "up")) (Some (Parts Up)) (cond (bytes_eq w (codes "marks")) (Some Marks) None))
 
--- what a word and the name of a model ask for
-abbrev pub with_model : Option Verb → Option ModelName → Result Command Mistake
-with_model None m = Err NoSuchCommand
-with_model (Some verb.Help) m = Err TooMany
-with_model (Some (verb.Print form)) None = Err NoLadder
-with_model (Some (verb.Print form)) (Some m) = Ok (Print form m)
+-- the preference that a word names
+abbrev pub preference_of : List ℕ → Option Preference
+preference_of w = cond (bytes_eq w (codes "greater")) (Some Greater) (cond (bytes_eq w (codes "lesser")) (Some Lesser) None)
 
--- what three words and more ask for
-abbrev pub too_many : Option Verb → Result Command Mistake
-too_many None = Err NoSuchCommand
-too_many (Some v) = Err TooMany
-
--- what so many words ask for, by the command and the model that the first two spell
-abbrev pub by_count : ℕ → Option Verb → Option ModelName → Result Command Mistake
-by_count n v m = cond (n == 0) (Err NoCommand) (cond (n == 1) (alone v) (cond (n == 2) (with_model v m) (too_many v)))
-
--- a word of the command line, from 0; empty where there is none
+-- a word of several, from 0; empty where there is none
 abbrev pub word_at : ℕ → List (List ℕ) → List ℕ
-word_at k args = slice_index_or args k []
+word_at k words = slice_index_or words k []
+
+-- what the words after `help` ask for
+abbrev pub help_asked : List (List ℕ) → Result Command Mistake
+help_asked [] = Ok Help
+help_asked (w ∷ ws) = Err TooMany
+
+-- the printing of a model that is named
+abbrev pub print_of : Form → Option ModelName → Result Command Mistake
+print_of form None = Err NoLadder
+print_of form (Some m) = Ok (Print form m)
+
+-- what the words after `show` or `write` ask for: MODEL
+abbrev pub print_asked : Form → List (List ℕ) → Result Command Mistake
+print_asked form [] = Err NoModel
+print_asked form (name ∷ []) = print_of form (model_named name)
+print_asked form (name ∷ w ∷ ws) = Err TooMany
+
+-- rounds on a model, by a rule, a preference and a number, if they are there
+abbrev pub rounds_of : Option ModelName → Option Kind → Option Preference → Option ℕ → Result Command Mistake
+rounds_of None kind p k = Err NoLadder
+rounds_of (Some m) None p k = Err (mistake.Rounds NoRule)
+rounds_of (Some m) (Some kind) None k = Err (mistake.Rounds NoPreference)
+rounds_of (Some m) (Some kind) (Some p) None = Err (mistake.Rounds NoCount)
+rounds_of (Some m) (Some kind) (Some p) (Some k) = Ok (Rounds m (record { kind = kind; preference = p; count = k }))
+
+-- what the words after `rounds` ask for: MODEL, RULE, PREFERENCE and COUNT; VALUES are read later
+abbrev pub rounds_asked : List (List ℕ) → Result Command Mistake
+rounds_asked words =
+    cond (nat_lt (length words) 5) (Err (mistake.Rounds TooFew))
+    (cond (nat_lt 5 (length words)) (Err TooMany) (rounds_of (model_named (word_at 0 words)) (kind_of (word_at 1 words)) (preference_of (word_at 2 words)) (long_number_read (word_at 3 words))))
+
+-- what the words after `formula` ask for: TEXT
+abbrev pub formula_asked : List (List ℕ) → Result Command Mistake
+formula_asked [] = Err NoFormula
+formula_asked (text ∷ []) = Ok Formula
+formula_asked (text ∷ w ∷ ws) = Err TooMany
+
+-- the model that words name which are to be MODEL and the path of a file
+abbrev pub model_and_file : Mistake → List (List ℕ) → Result ModelName Mistake
+model_and_file missing words =
+    cond (length words == 0) (Err NoModel)
+    (cond (length words == 1) (Err missing) (cond (nat_lt 2 (length words)) (Err TooMany) (ok_or (model_named (word_at 0 words)) NoLadder)))
+
+-- what a command and the words after it ask for
+abbrev pub asked : Verb → List (List ℕ) → Result Command Mistake
+asked verb.Help words = help_asked words
+asked (verb.Print form) words = print_asked form words
+asked verb.Rounds words = rounds_asked words
+asked verb.Formula words = formula_asked words
+asked verb.Trial words = result_map_both Trial (λ m. m) (model_and_file NoCalls words)
+
+-- the same of a word that may spell no command
+abbrev pub asked_by : Option Verb → List (List ℕ) → Result Command Mistake
+asked_by None words = Err NoSuchCommand
+asked_by (Some v) words = asked v words
 
 -- what the words of the command line, after the program's name, ask for
 abbrev pub command_of : List (List ℕ) → Result Command Mistake
-command_of args = by_count (length args) (verb_of (word_at 0 args)) (model_named (word_at 1 args))
+command_of [] = Err NoCommand
+command_of (word ∷ words) = asked_by (verb_of word) words

@@ -1,53 +1,10 @@
-ghost use Rattle.std.specs.Prelude.{◌≡◌, ◌++◌, codes, map, string_bytes};
-ghost use Rattle.console.specs.Commands.{verb_of, part, ladder_named, model_named, word_at, command_of};
+ghost use Rattle.std.specs.Prelude.{◌≡◌, map, string_bytes};
+ghost use Rattle.console.specs.Commands.{help_asked, print_asked, rounds_asked, formula_asked, model_and_file, word_at, command_of};
 
-use crate::command::{Command, Form, LadderNumbers, Mistake, ModelName, Verb};
-use text::cut::{piece, piece_count};
-use text::number::number;
-
-// The command that a word spells.
-fn verb(word: &[u8]) -> Option<Verb>
-    ensures { result ≡ verb_of word.now }
-{
-    match word {
-        b"show" => Some(Verb::Print(Form::Listing)),
-        b"write" => Some(Verb::Print(Form::Text)),
-        b"help" => Some(Verb::Help),
-        _ => None,
-    }
-}
-
-// The number that a part of a name writes, if it is one.
-fn part(name: &[u8], index: usize) -> Option<u32>
-    ensures { result ≡ part index name.now }
-{
-    number(piece(name, b':', index), index).ok()
-}
-
-// The ladder that `ladder:` and these numbers name, if they are three. The parts are counted and each is cut for itself:
-// `next` after `next` on one `split` has seven ways out, and each would want a proof of its own of which parts are left.
-fn ladder_named(numbers: &[u8]) -> Option<ModelName>
-    ensures { result ≡ ladder_named (codes "ladder:" ++ numbers.now) }
-{
-    if piece_count(numbers, b':') != 3 {
-        return None;
-    }
-    Some(ModelName::Ladder(LadderNumbers {
-        rungs: part(numbers, 0)? as usize,
-        denominator: part(numbers, 1)?,
-        weight: part(numbers, 2)?,
-    }))
-}
-
-// The model that a name gives: a ladder, or the file at this path.
-fn model_named(name: &[u8]) -> Option<ModelName>
-    ensures { result ≡ model_named name.now }
-{
-    match name.strip_prefix(b"ladder:") {
-        Some(numbers) => ladder_named(numbers),
-        None => Some(ModelName::File),
-    }
-}
+use crate::command::{Command, Form, Mistake, ModelName, RoundsMistake, Verb};
+use crate::names::{kind, model_named, preference, verb};
+use rounds_text::request::Request;
+use text::number::long_number;
 
 // A word of the command line, from 0; empty where there is none.
 pub(crate) fn word_at(args: &[String], index: usize) -> &str
@@ -56,19 +13,86 @@ pub(crate) fn word_at(args: &[String], index: usize) -> &str
     args.get(index).map_or("", |word| word.as_str())
 }
 
-// What the words of the command line, after the program's name, ask for.
-pub fn command(args: &[String]) -> Result<Command, Mistake>
-    ensures { result ≡ command_of (map string_bytes args.now) }
+// What the words after `help` ask for.
+fn help_asked(words: &[String]) -> Result<Command, Mistake>
+    ensures { result ≡ help_asked (map string_bytes words.now) }
 {
-    let (word, rest) = args.split_first().ok_or(Mistake::NoCommand)?;
-    let verb = verb(word.as_bytes()).ok_or(Mistake::NoSuchCommand)?;
-    match (verb, rest) {
-        (Verb::Help, []) => Ok(Command::Help),
-        (Verb::Print(_), []) => Err(Mistake::NoModel),
-        (Verb::Print(form), [name]) => {
+    match words {
+        [] => Ok(Command::Help),
+        _ => Err(Mistake::TooMany),
+    }
+}
+
+// What the words after `show` or `write` ask for.
+fn print_asked(form: Form, words: &[String]) -> Result<Command, Mistake>
+    ensures { result ≡ print_asked form (map string_bytes words.now) }
+{
+    match words {
+        [] => Err(Mistake::NoModel),
+        [name] => {
             let model = model_named(name.as_bytes()).ok_or(Mistake::NoLadder)?;
             Ok(Command::Print(form, model))
         }
         _ => Err(Mistake::TooMany),
+    }
+}
+
+// What the words after `rounds` ask for: MODEL, RULE, PREFERENCE, COUNT and VALUES.
+fn rounds_asked(words: &[String]) -> Result<Command, Mistake>
+    ensures { result ≡ rounds_asked (map string_bytes words.now) }
+{
+    match words {
+        [name, rule, wanted, number, _] => {
+            let model = model_named(name.as_bytes()).ok_or(Mistake::NoLadder)?;
+            let kind = kind(rule.as_str()).ok_or(RoundsMistake::NoRule)?;
+            let preference = preference(wanted.as_str()).ok_or(RoundsMistake::NoPreference)?;
+            let count = long_number(number.as_bytes()).ok_or(RoundsMistake::NoCount)?;
+            let request = Request {
+                kind,
+                preference,
+                count,
+            };
+            Ok(Command::Rounds(model, request))
+        }
+        _ if words.len() < 5 => Err(Mistake::Rounds(RoundsMistake::TooFew)),
+        _ => Err(Mistake::TooMany),
+    }
+}
+
+// What the words after `formula` ask for: TEXT.
+fn formula_asked(words: &[String]) -> Result<Command, Mistake>
+    ensures { result ≡ formula_asked (map string_bytes words.now) }
+{
+    match words {
+        [] => Err(Mistake::NoFormula),
+        [_] => Ok(Command::Formula),
+        _ => Err(Mistake::TooMany),
+    }
+}
+
+// The model that words name which are to be MODEL and the path of a file.
+fn model_and_file(words: &[String], missing: Mistake) -> Result<ModelName, Mistake>
+    ensures { result ≡ model_and_file missing (map string_bytes words.now) }
+{
+    match words {
+        [] => Err(Mistake::NoModel),
+        [_] => Err(missing),
+        [name, _] => model_named(name.as_bytes()).ok_or(Mistake::NoLadder),
+        _ => Err(Mistake::TooMany),
+    }
+}
+
+// What the words of the command line, after the program's name, ask for.
+pub fn command(args: &[String]) -> Result<Command, Mistake>
+    ensures { result ≡ command_of (map string_bytes args.now) }
+{
+    let (word, words) = args.split_first().ok_or(Mistake::NoCommand)?;
+    let verb = verb(word.as_str()).ok_or(Mistake::NoSuchCommand)?;
+    match verb {
+        Verb::Help => help_asked(words),
+        Verb::Print(form) => print_asked(form, words),
+        Verb::Rounds => rounds_asked(words),
+        Verb::Formula => formula_asked(words),
+        Verb::Trial => Ok(Command::Trial(model_and_file(words, Mistake::NoCalls)?)),
     }
 }

@@ -1,6 +1,6 @@
 -- Bytes, comparisons, bounds and steps in a text.
-use Rattle.std.proofs.Common.{◌≡◌, ℕ, ◌+◌, ◌-◌, ◌<◌, ◌≤◌, true, false, ltb, List, [], ◌∷◌, ◌++◌, length, get_or, take, drop, Some, None, Ok, decimal, sym, refl, ap, ◌∙◌, subst, ⊎_elim, append_assoc, add-zero, arith, lit<, length-append, length-drop}
-use Rattle.std.proofs.lemmas.List.{drop_more, get_or-drop, take_more, take_rest, take-append-drop, length-take-le, nil_from_length, append_cancel_left}
+use Rattle.std.proofs.Common.{◌≡◌, ℕ, ◌+◌, ◌-◌, ◌<◌, ◌≤◌, true, false, ltb, List, [], ◌∷◌, ◌++◌, length, get_or, take, drop, Some, None, Ok, decimal, sym, refl, ap, ◌∙◌, ⊎_elim, append_assoc, add-zero, arith, lit<, length-append, length-drop}
+use Rattle.std.proofs.lemmas.List.{drop_more, get_or-drop, take_rest, take-append-drop, length-take-le, nil_from_length, append_cancel_left}
 use Rattle.std.proofs.lemmas.Bool.{and_parts, and_cases, ltb-true, ltb-false, eqb-true, eqb-false}
 use Rattle.std.proofs.lemmas.Fmt.{decimal_digit}
 use Rattle.theory.specs.Formulas.{below}
@@ -24,14 +24,6 @@ has_false t a b e l q = ⊎_elim (λ h. omega (arith, ltb-false _ _ h, l)) (λ h
 -- one byte is read
 pub byte_read : (t : List ℕ) (a b : ℕ) → has t a b ≡ true → Read (Just b) (b ∷ []) t a (a + 1)
 byte_read t a b e = let p = has_true t a b e in just_read b t a p.0 p.1
-
--- or refused
-pub byte_refused : (t : List ℕ) (a b : ℕ) → a ≤ length t → has t a b ≡ false → Refused (Just b) t a a
-byte_refused t a b l e = none_begins {L = Just b} t a l (λ w. omega (arith, ap length w)) b [] refl (λ k h w. has_false t a b e h (heads w))
-
--- a word's front and its next byte are a longer front
-pub word_more : {t : List ℕ} (word : List ℕ) (i : ℕ) {a m e : ℕ} → i < length word → Stands (take i word) t a m → Read (Just (get_or word i 0)) (get_or word i 0 ∷ []) t m e → Stands (take (i + 1) word) t a e
-word_more {t} word i {a} {m} {e} l s r = subst (λ (z : List ℕ). Stands z t a e) (sym (take_more word i 0 l)) (stands_then s r.stands)
 
 -- where its next byte is refused, so is the word
 pub word_refused : {t : List ℕ} (word : List ℕ) (i : ℕ) {a m p : ℕ} → i < length word → Stands (take i word) t a m → Refused (Just (get_or word i 0)) t m p → Refused (Only word) t a p

@@ -1,18 +1,24 @@
 -- From what is read at the start of a text to the whole text.
-use Rattle.std.proofs.Common.{◌≡◌, ℕ, zero, suc, ◌+◌, ◌-◌, ◌<◌, ◌≤◌, List, [], ◌∷◌, ◌++◌, length, take, drop, None, sym, refl, ap, ◌∙◌, subst, append_assoc, append-nil, arith, length-append, length-drop}
+use Rattle.std.proofs.Common.{◌≡◌, ℕ, zero, suc, Bool, true, false, ◌+◌, ◌-◌, ◌<◌, ◌≤◌, List, [], ◌∷◌, ◌++◌, length, take, drop, None, Some, Err, Option, sym, refl, ap, ◌∙◌, subst, append_assoc, append-nil, arith, length-append, length-drop}
 use Rattle.std.proofs.Math.Seq.{take-append-add}
 use Rattle.std.proofs.lemmas.List.{drop_all, set_at, take_all}
+use Rattle.model.specs.Mdp.{over}
+use Rattle.text.specs.Refusals.{ask, first}
 use Rattle.theory.specs.Formulas.{Formula}
 use Rattle.grammar.specs.Words.{Language, Shut, Stands, Refused}
 use Rattle.grammar.specs.Spelling.{print, Spelled}
 use Rattle.grammar.specs.Languages.{StateWord}
 use Rattle.grammar.proofs.Readings.{only}
 use Rattle.records.specs.declared.record.Record.{Record}
+use Rattle.records.specs.declared.fault.FormulaFault.{FormulaFault}
+use Rattle.records.specs.declared.fault.FormulaFault.TheVariants as fault
+use Rattle.records.specs.declared.fault.JudgeFault.{JudgeFault}
+use Rattle.records.specs.declared.fault.JudgeFault.TheVariants as judge
 use Rattle.formula.specs.declared.reading.Reading.{Reading}
 use Rattle.formula.specs.Records.{size, records}
-use Rattle.formula.specs.Questions.{fault_by, formula_fault}
+use Rattle.formula.specs.Questions.{placed, fault_by, formula_fault}
 use Rattle.formula.specs.Readings.{overlaid, StateRead}
-use Rattle.formula.specs.Answers.{Begins, NoFormula, WholeRead, Within, Accepted}
+use Rattle.formula.specs.Answers.{Begins, NoFormula, WholeRead, Within, Accepted, Faulty, FormulaAnswer, JudgeAnswer}
 use Rattle.formula.proofs.Forms.{state_word, length_records}
 use Rattle.formula.proofs.Limits.{limits}
 
@@ -87,6 +93,42 @@ module _ {text : List ℕ} {lent left : List Record} {r : Reading} (s : StateRea
 pub same_fault : {text : List ℕ} {r : Reading} (n : ℕ) (s : WholeRead text r) → fault_by r.large r.depth r.count n r.unbounded ≡ formula_fault n s.formula
 same_fault {text} {r} n s = rw (s.large, s.deep, s.counts, s.unbounded) refl
 
+-- no question gives the fault of a text that is no formula
+no_question : (large : Option ℕ) (deep few : Bool) (unbounded : Option ℕ) (p : ℕ) → first (placed fault.Number large ∷ ask deep fault.Depth ∷ ask few fault.Records ∷ placed fault.Until unbounded ∷ []) ≡ Some (fault.NoFormula p) → ⊥
+no_question (Some q) deep few unbounded p e = absurd cc
+no_question None false few unbounded p e = absurd cc
+no_question None true false unbounded p e = absurd cc
+no_question None true true (Some q) p e = absurd cc
+no_question None true true None p e = absurd cc
+
+-- a text whose formula has this fault is refused with it
+pub faulty : {text : List ℕ} {r : Reading} (n : ℕ) (s : WholeRead text r) (e : FormulaFault) → fault_by r.large r.depth r.count n r.unbounded ≡ Some e → (lent : List Record) → length lent ≡ n → FormulaAnswer text lent lent (Err e)
+faulty {text} {r} n s e x lent l = each e (record {
+  formula = s.formula;
+  spelled = s.spelled;
+  spells = s.spells;
+  refused = ap (λ k. formula_fault k s.formula) l ∙ sym (same_fault n s) ∙ x;
+  kept = refl;
+}) x
+  where
+    each : (e : FormulaFault) → Faulty text lent lent e → fault_by r.large r.depth r.count n r.unbounded ≡ Some e → FormulaAnswer text lent lent (Err e)
+    each (fault.NoFormula p) f x = absurd (no_question r.large _ _ r.unbounded p x)
+    each (fault.Number p) f x = f
+    each fault.Depth f x = f
+    each fault.Records f x = f
+    each (fault.Until p) f x = f
+
+-- a refusal changes no record
+pub refusal_keeps : (text : List ℕ) (lent left : List Record) (e : JudgeFault) → JudgeAnswer text lent left (Err e) → left ≡ lent
+refusal_keeps text lent left judge.Length x = x.1
+refusal_keeps text lent left (judge.Formula (fault.NoFormula p)) x = x.1.1
+refusal_keeps text lent left (judge.Formula (fault.Number p)) x = x.1.kept
+refusal_keeps text lent left (judge.Formula fault.Depth) x = x.1.kept
+refusal_keeps text lent left (judge.Formula fault.Records) x = x.1.kept
+refusal_keeps text lent left (judge.Formula (fault.Until p)) x = x.1.kept
+refusal_keeps text lent left judge.Scratch x = absurd x
+refusal_keeps text lent left judge.Out x = absurd x
+
 -- what is written over the front of a list stands there, and what is beyond it is as it was
 overlaid_at : (u v rs : List Record) (k : ℕ) → k ≡ length u → length rs ≤ length v → overlaid (u ++ v) k rs ≡ u ++ (rs ++ drop (length rs) v)
 overlaid_at u v [] k e l = refl
@@ -96,14 +138,25 @@ overlaid_at u (x ∷ v) (r ∷ rs) k e l =
     ∙ overlaid_at (u ++ (r ∷ [])) v rs (k + 1) (omega (arith, e, length-append u (r ∷ []))) (omega (arith, l))
     ∙ append_assoc u (r ∷ []) (rs ++ drop (length rs) v)
 
--- where the whole text is read again, it is accepted
-pub accepted : {text : List ℕ} {lent left : List Record} {r r' : Reading} (s : WholeRead text r) → StateRead text 0 0 lent left r' → fault_by r.large r.depth r.count (length lent) r.unbounded ≡ None → Accepted text lent left r.count
-accepted {text} {lent} {left} {r} {r'} s again clear = record {
+-- where so many records are lent, a text whose formula has no fault is accepted
+pub accepted : {text : List ℕ} {r : Reading} (n : ℕ) (s : WholeRead text r) → fault_by r.large r.depth r.count n r.unbounded ≡ None → (lent : List Record) → length lent ≡ n → Accepted text lent (over (records 0 s.formula) lent) r.count
+accepted n s clear lent l = record {
   formula = s.formula;
   spelled = s.spelled;
   spells = s.spells;
-  limits = sym (same_fault (length lent) s) ∙ clear;
+  limits = ap (λ k. formula_fault k s.formula) l ∙ sym (same_fault n s) ∙ clear;
   number = s.counts;
+  written = refl;
+}
+
+-- and where it is read again, its records are filled
+pub filled : {text : List ℕ} {lent left left' : List Record} {n : ℕ} {r : Reading} (s : Accepted text lent left n) → StateRead text 0 0 lent left' r → Accepted text lent left' n
+filled {text} {lent} {left} {left'} {n} {r} s again = record {
+  formula = s.formula;
+  spelled = s.spelled;
+  spells = s.spells;
+  limits = s.limits;
+  number = s.number;
   written =
       again.written
       ∙ ap (λ z. overlaid lent 0 (records 0 z)) (same_formula again s.formula s.spelled s.spells)
@@ -115,4 +168,4 @@ accepted {text} {lent} {left} {r} {r'} s again clear = record {
     all = length_records s.formula 0
 
     within : Within (length lent) s.formula
-    within = (limits (length lent) s.formula s.spelled).0 (sym (same_fault (length lent) s) ∙ clear)
+    within = (limits (length lent) s.formula s.spelled).0 s.limits

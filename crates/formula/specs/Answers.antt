@@ -83,6 +83,12 @@ abbrev pub JudgeAnswer : List ℕ → List Record → List Record → Result ℕ
 JudgeAnswer text lent left (Ok n) = Readable text × Accepted text lent left n
 JudgeAnswer text lent left (Err judge.Length) = (Readable text → ⊥) × (left ≡ lent)
 JudgeAnswer text lent left (Err (judge.Formula e)) = Readable text × FormulaAnswer text lent left (Err e)
+JudgeAnswer text lent left (Err judge.Scratch) = ⊥
+JudgeAnswer text lent left (Err judge.Out) = ⊥
+
+-- what is answered where so many records are lent and none is to be filled: what reading answers for any records of that number
+abbrev pub CountAnswer : List ℕ → ℕ → Result ℕ JudgeFault → Type 0
+CountAnswer text n r = (lent : List Record) → length lent ≡ n → (left : List Record) × JudgeAnswer text lent left r
 
 -- the whole text is the formula, and what is known of it is so
 pub record WholeRead (text : List ℕ) (r : Reading) : Type 0 where

@@ -22,6 +22,21 @@ abbrev mutual
   path_size (until_within k f g) = size f + size g
   path_size (until f g) = size f + size g
 
+-- the state formulas of a formula in the order of its records: those of the left part, then those of the right, then itself
+abbrev mutual
+  pub parts : Formula → List Formula
+  parts truth = truth ∷ []
+  parts (label i) = label i ∷ []
+  parts (negation f) = parts f ++ (negation f ∷ [])
+  parts (conjunction f g) = parts f ++ (parts g ++ (conjunction f g ∷ []))
+  parts (probability c b p) = path_parts p ++ (probability c b p ∷ [])
+
+  -- those of the parts of a path formula
+  pub path_parts : PathFormula → List Formula
+  path_parts (next f) = parts f
+  path_parts (until_within k f g) = parts f ++ parts g
+  path_parts (until f g) = parts f ++ parts g
+
 -- the code's own comparison for a comparison
 abbrev pub coded : Comparison → Code
 coded below = Below

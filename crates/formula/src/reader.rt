@@ -1,7 +1,8 @@
-ghost use Rattle.std.specs.Prelude.{◌≡◌};
+ghost use Rattle.std.specs.Prelude.{◌≡◌, List, length};
 ghost use Rattle.grammar.specs.Spelling.{OneReading};
 ghost use Rattle.formula.specs.Questions.{fault_by};
-ghost use Rattle.formula.specs.Answers.{Limits, Places, FormulaAnswer, JudgeAnswer, Surveyed};
+ghost use Rattle.formula.specs.Answers.{Limits, Places, FormulaAnswer, JudgeAnswer, CountAnswer, Surveyed};
+ghost use Rattle.records.specs.declared.record.Record.{Record as RecordValue};
 
 use crate::cursor::Cursor;
 use crate::formulas::state_formula;
@@ -9,31 +10,41 @@ use crate::reading::Reading;
 use records::fault::{FormulaFault, JudgeFault};
 use records::record::Record;
 
+// How many records reading the text of a formula fills, where so many are lent: it asks all that `read_formula` asks and
+// fills none.
+pub fn record_count(text: &[u8], lent: usize) -> Result<usize, JudgeFault>
+    ensures { CountAnswer text.now lent result }
+{
+    if text.len() < 1 || text.len() > 1024 {
+        return Err(JudgeFault::Length);
+    }
+    let count = formula_count(text, lent)?;
+    Ok(count)
+}
+
+// The same of a text of any length.
+fn formula_count(text: &[u8], lent: usize) -> Result<usize, FormulaFault>
+    ensures { (records : List RecordValue) → length records ≡ lent → (left : List RecordValue) × FormulaAnswer text.now records left result }
+{
+    let reading = survey(text)?;
+    match fault_of(reading, lent) {
+        Some(fault) => Err(fault),
+        None => Ok(reading.count),
+    }
+}
+
 // Reads the text of a formula of 1 to 1,024 bytes and fills the lent records with those of its state formulas: all of
-// the left part, then the right, then the whole. It answers how many they are; a refusal changes no record.
+// the left part, then the right, then the whole. It answers how many they are; a refusal changes no record. The text is
+// read once to be asked, and once more to fill the records.
 pub fn read_formula(text: &[u8], records: &mut [Record]) -> Result<usize, JudgeFault>
     ensures reading { OneReading }
     ensures limits { Limits }
     ensures places { Places }
     ensures answer { JudgeAnswer text.now records.old records.new result }
 {
-    if text.len() < 1 || text.len() > 1024 {
-        return Err(JudgeFault::Length);
-    }
-    let count = fill(text, records)?;
-    Ok(count)
-}
-
-// The same of a text of any length: it is read once to be asked, and once more to fill the records.
-fn fill(text: &[u8], records: &mut [Record]) -> Result<usize, FormulaFault>
-    ensures { FormulaAnswer text.now records.old records.new result }
-{
-    let reading = survey(text)?;
-    if let Some(fault) = fault_of(reading, records.len()) {
-        return Err(fault);
-    }
+    let count = record_count(text, records.len())?;
     match state_formula(Cursor { text, at: 0 }, records, 0) {
-        Ok(_) => Ok(reading.count),
+        Ok(_) => Ok(count),
         Err(_) => unreachable!(),
     }
 }

@@ -7,11 +7,17 @@ use std::io::Write;
 use std::process::ExitCode;
 use std::{env, fs, io};
 
-// Reads the file that the command line names, and prints the reply: a success where nothing is refused or wrong.
+// The bytes of the file with this number that the command line names, if it names one and that can be read.
+fn file(rt: &HostRuntime, args: &[String], number: usize) -> Option<Vec<u8>> {
+    path(args, number).and_then(|path| fs::read(rt, path).ok())
+}
+
+// Reads the files that the command line names, and prints the reply: a success where nothing is refused or wrong.
 fn run(rt: &HostRuntime) -> io::Result<ExitCode> {
     let args: Vec<String> = env::args(rt)?.skip(1).collect(rt.alloc())?;
-    let file = path(args.as_slice()).and_then(|path| fs::read(rt, path).ok());
-    match reply(rt.alloc(), args.as_slice(), file.as_deref())? {
+    let args = args.as_slice();
+    let (model, calls) = (file(rt, args, 0), file(rt, args, 1));
+    match reply(rt.alloc(), args, model.as_deref(), calls.as_deref())? {
         Reply::Printed(text) => {
             rt.stdout().write_all(text.as_slice())?;
             Ok(ExitCode::SUCCESS)

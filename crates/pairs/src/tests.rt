@@ -1,3 +1,4 @@
+use crate::models::{RETRY, THIRDS, table};
 use crate::rule::Pairs;
 use ladder::ladder::Ladder;
 use rounds::fault::RoundsFault;
@@ -11,26 +12,11 @@ use rules::preference::Preference;
 use rules::rounding::Rounding;
 use std::process::Abort;
 use std::test::Fail;
-use tables::tables::Tables;
-
-// State 0 tries again with 1 part out of 4 or goes to 1, or it takes 1 or 2 alike; 1 and 2 stay.
-const RETRY: &[u8] =
-    b"mdp\t3\t4\ns\t-\nc\nb\t0\t1\nb\t1\t3\nc\nb\t1\t2\nb\t2\t2\ns\ta\nc\nb\t1\t4\ns\tb\nc\nb\t2\t4\nend\n";
-
-// State 0 waits with 2 parts out of 3 and else goes to 1, which stays.
-const THIRDS: &[u8] = b"mdp\t2\t3\ns\t-\nc\nb\t0\t2\nb\t1\t1\ns\ta\nc\nb\t1\t3\nend\n";
 
 // Two states that change places.
 const SWAP: &[u8] = b"mdp\t2\t1\ns\t-\nc\nb\t1\t1\ns\t-\nc\nb\t0\t1\nend\n";
 
 const WHOLE: u32 = 1_000_000_000;
-
-// The table of a text.
-fn table(rt: &HostRuntime, text: &[u8]) -> Result<Tables, Fail> {
-    let mut tables = Tables::new(rt.alloc())?;
-    tables.load(text)?;
-    Ok(tables)
-}
 
 // Parts of these units.
 fn three(units: [u32; 3]) -> Result<[Part; 3], Fail> {
@@ -48,7 +34,7 @@ fn units(parts: [Part; 3]) -> [u32; 3] {
 
 #[test]
 fn greater_parts_of_retries(rt: HostRuntime) -> Result<(), Fail> {
-    let source = table(&rt, RETRY)?;
+    let source = table(rt.alloc(), RETRY)?;
     let rule = Parts {
         rounding: Rounding::Down,
         preference: Preference::Greater,
@@ -70,7 +56,7 @@ fn greater_parts_of_retries(rt: HostRuntime) -> Result<(), Fail> {
 
 #[test]
 fn lesser_parts_of_retries(rt: HostRuntime) -> Result<(), Fail> {
-    let source = table(&rt, RETRY)?;
+    let source = table(rt.alloc(), RETRY)?;
     let rule = Parts {
         rounding: Rounding::Up,
         preference: Preference::Lesser,
@@ -85,7 +71,7 @@ fn lesser_parts_of_retries(rt: HostRuntime) -> Result<(), Fail> {
 
 // The units of state 0 of THIRDS after so many rounds, rounded down and rounded up.
 fn thirds(rt: &HostRuntime, count: u64) -> Result<(u32, u32), Fail> {
-    let source = table(rt, THIRDS)?;
+    let source = table(rt.alloc(), THIRDS)?;
     let down = Parts {
         rounding: Rounding::Down,
         preference: Preference::Lesser,
@@ -113,7 +99,7 @@ fn thirds_are_rounded(rt: HostRuntime) -> Result<(), Fail> {
 
 // The marks of RETRY after a round from these.
 fn marked(rt: &HostRuntime, preference: Preference, start: [bool; 3]) -> Result<[bool; 3], Fail> {
-    let source = table(rt, RETRY)?;
+    let source = table(rt.alloc(), RETRY)?;
     let mut marks = start;
     let mut spare = start;
     rounds(&source, &Marks { preference }, &mut marks, &mut spare, 1)?;
@@ -156,7 +142,7 @@ fn marks_settle_on_a_ladder(rt: HostRuntime) -> Result<(), Fail> {
 
 #[test]
 fn marks_that_never_settle(rt: HostRuntime) -> Result<(), Fail> {
-    let source = table(&rt, SWAP)?;
+    let source = table(rt.alloc(), SWAP)?;
     let rule = Marks {
         preference: Preference::Greater,
     };
@@ -230,7 +216,7 @@ fn edges_of_parts(rt: HostRuntime) {
 
 #[test]
 fn pairs_of_retries(rt: HostRuntime) -> Result<(), Fail> {
-    let source = table(&rt, RETRY)?;
+    let source = table(rt.alloc(), RETRY)?;
     let mut values = [(0, 0), (2, 1), (2, 5)];
     let mut spare = [(9, 9); 3];
     rounds(&source, &Pairs, &mut values, &mut spare, 1)?;

@@ -26,13 +26,17 @@ abbrev pub caret_place : Option FieldPlace → List ℕ → ℕ
 caret_place None line = 0
 caret_place (Some at) line = min (field_place at.field line + at.length) (length line)
 
--- a line as it is shown, and a caret under the place of the fault
-abbrev pub marked : Option FieldPlace → List ℕ → List ℕ
-marked at line = map shown line ++ (codes "\n" ++ (map under (take (caret_place at line) line) ++ codes "^\n"))
+-- a line as it is shown, and a caret under a place of it, or behind it where the place is past its end
+abbrev pub marked : ℕ → List ℕ → List ℕ
+marked place line = map shown line ++ (codes "\n" ++ (map under (take place line) ++ codes "^\n"))
+
+-- the same with the caret under the place of a fault of the line
+abbrev pub marked_fault : Option FieldPlace → List ℕ → List ℕ
+marked_fault at line = marked (caret_place at line) line
 
 -- the part of a text that is shown for line n, from 1: the line, or its first 100 bytes; nothing for line 0
 abbrev pub mark : ℕ → Option FieldPlace → List ℕ → List ℕ
-mark n at text = cond (n == 0) [] (marked at (take 100 (piece 10 (n - 1) text)))
+mark n at text = cond (n == 0) [] (marked_fault at (take 100 (piece 10 (n - 1) text)))
 
 -- a text's refusal: its first line, and then the refused line with the caret
 abbrev pub refusal_text : FileFault → List ℕ → List ℕ

@@ -66,32 +66,42 @@ fn add_drawn<F: Fn(u8) -> u8>(out: &mut String, line: &[u8], draw: F) -> Result<
     Ok(())
 }
 
-// Adds a line as it is shown, and a caret under the place of the fault.
-fn add_marked(out: &mut String, line: &[u8], at: Option<FieldPlace>) -> Result<(), AllocError>
-    ensures { OnOk result (string_bytes out.new ≡ string_bytes out.old ++ marked at line.now) }
+// A line as it is shown.
+pub fn shown_line(heap: Global, line: &[u8]) -> Result<String, AllocError>
+    ensures { IfOk result (λ s. string_bytes s ≡ map shown line.now) }
 {
-    add_drawn(out, line, shown)?;
-    out.push_str("\n")?;
-    add_drawn(out, &line[..caret_place(line, at)], under)?;
-    out.push_str("^\n")?;
-    Ok(())
+    let mut out = String::new(heap);
+    add_drawn(&mut out, line, shown)?;
+    Ok(out)
 }
 
-// Adds the line of the text with this number, from 1, or its first 100 bytes, with a caret under the place of the fault:
+// A line as it is shown, and a caret under this place of it, or behind it where the place is past its end.
+pub fn marked(heap: Global, line: &[u8], place: usize) -> Result<String, AllocError>
+    ensures { IfOk result (λ s. string_bytes s ≡ marked place line.now) }
+{
+    let mut out = shown_line(heap, line)?;
+    out.push_str("\n")?;
+    add_drawn(&mut out, &line[..place.min(line.len())], under)?;
+    out.push_str("^\n")?;
+    Ok(out)
+}
+
+// The line of the text with this number, from 1, or its first 100 bytes, with a caret under the place of the fault:
 // nothing for line 0.
-fn add_mark(
-    out: &mut String,
+fn mark(
+    heap: Global,
     text: &[u8],
     number: usize,
     at: Option<FieldPlace>,
-) -> Result<(), AllocError>
-    ensures { OnOk result (string_bytes out.new ≡ string_bytes out.old ++ mark number at text.now) }
+) -> Result<String, AllocError>
+    ensures { IfOk result (λ s. string_bytes s ≡ mark number at text.now) }
 {
     match number.checked_sub(1) {
-        None => Ok(()),
+        None => Ok(String::new(heap)),
         Some(index) => {
             let line = piece(text, b'\n', index);
-            add_marked(out, &line[..line.len().min(100)], at)
+            let front = &line[..line.len().min(100)];
+            marked(heap, front, caret_place(front, at))
         }
     }
 }
@@ -100,8 +110,7 @@ fn add_mark(
 pub fn refusal_text(heap: Global, text: &[u8], fault: &FileFault) -> Result<String, AllocError>
     ensures { IfOk result (λ s. string_bytes s ≡ refusal_text fault.now text.now) }
 {
-    let mut out = file_refusal(heap, fault)?;
-    out.push_str("\n")?;
-    add_mark(&mut out, text, fault.line(), fault.field())?;
-    Ok(out)
+    let refusal = file_refusal(heap, fault)?;
+    let mark = mark(heap, text, fault.line(), fault.field())?;
+    format!(in heap; "{refusal}\n{mark}")
 }

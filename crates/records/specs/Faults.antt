@@ -3,7 +3,7 @@ use Rattle.std.specs.Prelude.{ℕ}
 use Rattle.records.specs.declared.fault.FormulaFault.{FormulaFault}
 use Rattle.records.specs.declared.fault.FormulaFault.TheVariants.{NoFormula, Number, Depth, Records, Until}
 use Rattle.records.specs.declared.fault.JudgeFault.{JudgeFault}
-use Rattle.records.specs.declared.fault.JudgeFault.TheVariants.{Length, Formula}
+use Rattle.records.specs.declared.fault.JudgeFault.TheVariants.{Length, Formula, Scratch, Out}
 
 -- the number of a formula's fault
 abbrev pub formula_fault_number : FormulaFault → ℕ
@@ -25,8 +25,12 @@ formula_fault_place (Until place) = place
 abbrev pub judge_fault_number : JudgeFault → ℕ
 judge_fault_number Length = 20
 judge_fault_number (Formula fault) = formula_fault_number fault
+judge_fault_number Scratch = 26
+judge_fault_number Out = 27
 
 -- the place of a judge's fault
 abbrev pub judge_fault_place : JudgeFault → ℕ
 judge_fault_place Length = 0
 judge_fault_place (Formula fault) = formula_fault_place fault
+judge_fault_place Scratch = 0
+judge_fault_place Out = 0

@@ -13,11 +13,13 @@ pub enum FormulaFault {
     Until { place: usize },
 }
 
-// Why a text is not judged: its length, or a formula's fault.
+// Why a text is not judged: its length, a formula's fault, too few bytes of scratch, or an output that has not a byte for each state.
 #[derive(Clone, Copy, PartialEq, Eq, Debug)]
 pub enum JudgeFault {
     Length,
     Formula(FormulaFault),
+    Scratch,
+    Out,
 }
 
 // A formula's fault is one of its judge.
@@ -64,6 +66,8 @@ impl JudgeFault {
         match self {
             JudgeFault::Length => 20,
             JudgeFault::Formula(fault) => fault.number(),
+            JudgeFault::Scratch => 26,
+            JudgeFault::Out => 27,
         }
     }
 
@@ -72,8 +76,8 @@ impl JudgeFault {
         ensures { result ≡ judge_fault_place self.now }
     {
         match self {
-            JudgeFault::Length => 0,
             JudgeFault::Formula(fault) => fault.place(),
+            JudgeFault::Length | JudgeFault::Scratch | JudgeFault::Out => 0,
         }
     }
 }

@@ -9,9 +9,9 @@ use model::source::Source;
 // A ring of states: each goes on to the next with `weight` out of `denominator`, the last to state 0, or else stays.
 #[derive(Clone, Copy, PartialEq, Eq, Debug)]
 pub struct Ring {
-    pub(crate) states: usize,
-    pub(crate) denominator: u32,
-    pub(crate) weight: u32,
+    pub states: usize,
+    pub denominator: u32,
+    pub weight: u32,
     ghost round: { (2 ≤ states) × (states ≤ 512) },
     ghost divisible: { denominator ≤ 1000000 },
     ghost weighted: { (1 ≤ weight) × (weight < denominator) },

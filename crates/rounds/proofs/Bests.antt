@@ -1,6 +1,6 @@
 -- The loop over the choices of a state: the best mix so far, and the mixes still to come.
 use Rattle.std.proofs.Common.{◌≡◌, ℕ, ◌+◌, ◌<◌, ◌≤◌, Bool, cond, List, [], ◌∷◌, map, length, get_or, drop, sym, ap, ◌∙◌, arith}
-use Rattle.std.proofs.lemmas.List.{at_drop_more, at_drop_all}
+use Rattle.std.proofs.lemmas.List.{at_drop_more}
 use Rattle.model.specs.Mdp.{Row}
 use Rattle.theory.specs.Rules.{RuleLaws}
 use Rattle.theory.specs.Rounds.{most_of}
@@ -16,10 +16,6 @@ module _ {V : Type 0} (preferred : V → V → Bool) (f : Row → V) (rows : Lis
   best_more i x y z h e w =
       let more : best_from i x ≡ so_far preferred (cond (preferred x (f (get_or rows i []))) x (f (get_or rows i []))) (map f (drop (i + 1) rows)) = at_drop_more (λ rs. so_far preferred x (map f rs)) rows i [] h in
       ap (best_from (i + 1)) (w ∙ ap (λ (v : V). cond (preferred x v) x v) e) ∙ sym more
-
-  -- no row is left
-  pub best_all : (i : ℕ) (x : V) → length rows ≤ i → best_from i x ≡ x
-  best_all i x h = at_drop_all (λ rs. so_far preferred x (map f rs)) rows i h
 
 -- the best of the first row and of those after it is the most preferred of all
 pub best_first : {V : Type 0} (preferred : V → V → Bool) (mix : ℕ → List (ℕ × V) → V) → RuleLaws preferred mix → (f : Row → V) (rows : List Row) (d x : V) →

@@ -67,6 +67,8 @@ impl Source for Tables {
 
 impl Tables {
     // The number of a choice among those of all states, if there is such a choice.
+    // It is no `then` on the test: no proof was found of what the closure would need for its index and its sum, and a clause at
+    // the closure would be longer than this.
     fn choice_number(&self, state: usize, choice: usize) -> Option<usize>
         ensures { MatchOption result (row (model_of (content self.now.kept)) state choice ≡ []) (Stands self.now.kept (row (model_of (content self.now.kept)) state choice)) }
     {

@@ -1,9 +1,9 @@
 -- Which beginning of a field is a lawful set of labels, and which set it writes.
-use Rattle.std.proofs.Common.{◌≡◌, ℕ, None, Some, Option, Bor, zero, suc, ◌+◌, ◌-◌, ◌<◌, ◌≤◌, Bool, map, true, false, eqb, List, [], ◌∷◌, length, get_or, take, sym, refl, ap, subst, ltb, ◌∙◌, inr, ⊎_elim, add-one, arith}
+use Rattle.std.proofs.Common.{◌≡◌, ℕ, None, Some, Option, Bor, zero, suc, ◌+◌, ◌-◌, ◌<◌, ◌≤◌, Bool, map, true, false, eqb, List, [], ◌∷◌, length, get_or, take, sym, refl, ap, ltb, ◌∙◌, inr, ⊎_elim, add-one, arith}
 use Rattle.std.proofs.lemmas.List.{length-take-le, length-append, nil_from_length, get_or-take}
-use Rattle.std.proofs.lemmas.Bool.{and_parts, and_from, or_from, ltb-true, ltb-false, cases_Bool, ne_eqb, cases_lt, cases_eq}
+use Rattle.std.proofs.lemmas.Bool.{and_parts, and_from, or_from, ltb-true, ltb-false, cases_Bool, ne_eqb, cases_lt}
 use Rattle.std.specs.Fn.{Called, ComputesOnPairs}
-use Rattle.std.specs.Array.{IsFromFnResult, IsFromFnResultFrom}
+use Rattle.std.specs.Array.{IsFromFnResult}
 use Rattle.std.specs.List.{range_with_len, IsChunkByPrefix, prefix_len, starts_with}
 use Rattle.std.proofs.lemmas.List.FromFn.{fill_by_all}
 use Rattle.std.proofs.lemmas.List.Sums.{prefix_len-le-length, prefix_len_passes, prefix_len_stops}
@@ -14,6 +14,7 @@ use Rattle.std.specs.Slice.Iter.{chunk_by_steps, chunk_by_rest, chunk_by_callee}
 use Rattle.std.specs.declared.slice.ChunkBy.{ChunkBy}
 use denote.Param.Members.{Mut}
 use Rattle.text.specs.Fields.{between, ascending, lawful_labels, longest}
+use Rattle.text.proofs.Calls.{called_at}
 use Rattle.text.proofs.Longest.{longest_is}
 use Rattle.text.proofs.Ranges.{between_true, between_from}
 
@@ -124,16 +125,6 @@ run_letters g s t (Some x) d h by e =
     longest_letters (chunk_by_rest s) (length x.now) h.1 (omega (arith, ap length h.0, length-append x.now (chunk_by_rest t))) (h.2 ltb by).1
     ∙ ap (prefix_len letter) (ap (take (length x.now)) h.0 ∙ take-append_seam x.now (chunk_by_rest t))
 
--- where each call gives h of its number and leaves the closure, calls at the numbers from i on gave h of each
-called_at : {F : Type 0} (g : Mut F (ℕ × Unit {0}) Bool) (f : F) (h : ℕ → Bool) → ((i : ℕ) (y : Bool) (q : F) → Called g f (i, tt) y q → (q ≡ f) × (y ≡ h i)) → (ys : List Bool) (i n : ℕ) → IsFromFnResultFrom g f ys i n → (k : ℕ) → i ≤ k → k < i + n → get_or ys k false ≡ h k
-called_at g f h call ys i zero r k lo hi = absurd (omega arith)
-called_at g f h call ys i (suc n) (q, y, at, now, later) k lo hi =
-    let same = call i y q now in
-    ⊎_elim
-    (λ e. ap (λ z. get_or ys z false) (sym e) ∙ at.1 false ∙ same.1 ∙ ap h e)
-    (λ e. called_at g f h call ys (i + 1) n (subst (λ z. IsFromFnResultFrom g z ys (i + 1) n) same.0 later) k (omega (arith, e, lo)) (omega (arith, hi)))
-    (cases_eq i k)
-
--- so the calls gave the list of h
+-- where each call of `array::from_fn` gives h of its number and leaves the closure as it is, the calls gave the list of h
 pub from_calls : {F : Type 0} (g : Mut F (ℕ × Unit {0}) Bool) (f : F) (h : ℕ → Bool) → ((i : ℕ) (y : Bool) (q : F) → Called g f (i, tt) y q → (q ≡ f) × (y ≡ h i)) → (ys : List Bool) (n : ℕ) → IsFromFnResult g f ys n → ys ≡ map h (range_with_len 0 n)
-from_calls g f h call ys n r = fill_by_all h ys n false r.long (λ k l. called_at g f h call ys 0 n r.each k (omega arith) (omega arith))
+from_calls g f h call ys n r = fill_by_all h ys n false r.long (λ k l. called_at g f (λ i y. y ≡ h i) call ys false 0 n r.each k (omega arith) (omega arith))

@@ -3,4 +3,5 @@ pub mod Spellings
 pub mod Longest
 pub mod Ranges
 pub mod Digits
+pub mod Calls
 pub mod Letters

@@ -1,5 +1,5 @@
 -- The fields of a line: numbers and sets of labels.
-use Rattle.std.specs.Prelude.{◌≡◌, ℕ, zero, suc, ◌+◌, Bool, true, false, cond, not, ◌&&◌, ◌||◌, List, [], ◌∷◌, length, take, Ok, Err, Result, ◌==◌, nat_le, slice_index}
+use Rattle.std.specs.Prelude.{◌≡◌, ℕ, zero, suc, ◌+◌, Bool, true, false, cond, not, ◌&&◌, ◌||◌, List, [], ◌∷◌, length, take, Some, None, Ok, Err, Option, Result, ◌==◌, nat_le, slice_index}
 use Rattle.std.specs.Str.Parse.{digits_value}
 use Rattle.std.specs.Str.{all_ascii_digits}
 use Rattle.std.specs.List.{list_any}
@@ -12,9 +12,13 @@ use Rattle.text.specs.declared.fault.FieldFault.TheVariants as fault
 abbrev pub between : ℕ → ℕ → ℕ → Bool
 between low high x = nat_le low x && nat_le x high
 
--- a lawful number: 0, or one to seven digits that do not start with 0
+-- a number of at most so many digits: 0, or one digit to so many that do not start with 0 (48)
+abbrev pub numeral : ℕ → List ℕ → Bool
+numeral most w = all_ascii_digits w && (between 1 most (length w) && (length w == 1 || not (slice_index w 0 == 48)))
+
+-- a lawful number of a model text has at most seven digits
 abbrev pub lawful_number : List ℕ → Bool
-lawful_number w = all_ascii_digits w && (between 1 7 (length w) && (length w == 1 || not (slice_index w 0 == 48)))
+lawful_number w = numeral 7 w
 
 -- the number that digits write
 abbrev pub amount : List ℕ → ℕ
@@ -77,6 +81,10 @@ unlawful_place test w k = record { field = k; length = longest test w }
 -- what reading a number, field k of its line, answers
 abbrev pub number_read : List ℕ → ℕ → Result ℕ FieldFault
 number_read w k = cond (lawful_number w) (Ok (amount w)) (Err (fault.Number (unlawful_place lawful_number w k)))
+
+-- what reading a number of at most ten digits answers
+abbrev pub long_number_read : List ℕ → Option ℕ
+long_number_read w = cond (numeral 10 w) (Some (amount w)) None
 
 -- what reading a set of labels, field k of its line, answers
 abbrev pub LabelsRead : List ℕ → ℕ → Result Labels FieldFault → Type 0

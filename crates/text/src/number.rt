@@ -1,5 +1,5 @@
-ghost use Rattle.std.specs.Prelude.{◌≡◌};
-ghost use Rattle.text.specs.Fields.{lawful_number, longest, number_read};
+ghost use Rattle.std.specs.Prelude.{◌≡◌, ◌≤◌};
+ghost use Rattle.text.specs.Fields.{numeral, longest, number_read, long_number_read};
 
 use crate::fault::FieldFault;
 use crate::lawful::check_lawful;
@@ -9,22 +9,34 @@ use std::str;
 pub fn number(field: &[u8], index: usize) -> Result<u32, FieldFault>
     ensures { result ≡ number_read field.now index }
 {
-    check_lawful(field, index, number_length(field)).map_err(FieldFault::Number)?;
+    check_lawful(field, index, number_length(field, 7)).map_err(FieldFault::Number)?;
     // Digits are text, and seven of them fit.
     let digits = str::from_utf8(field).unwrap();
     Ok(digits.parse().unwrap())
 }
 
-// The length of the longest beginning that is a lawful number; 0 where none is.
-fn number_length(field: &[u8]) -> usize
-    ensures { result ≡ longest lawful_number field.now }
+// The number that a word writes, if it does: 0, or one to ten digits that do not start with 0. No place is told where it
+// does not.
+pub fn long_number(word: &[u8]) -> Option<u64>
+    ensures { result ≡ long_number_read word.now }
+{
+    check_lawful(word, 0, number_length(word, 10)).ok()?;
+    // Digits are text, and ten of them fit.
+    let digits = str::from_utf8(word).unwrap();
+    Some(digits.parse().unwrap())
+}
+
+// The length of the longest beginning that is a number of at most so many digits; 0 where none is.
+fn number_length(field: &[u8], most: usize) -> usize
+    requires { 1 ≤ most }
+    ensures { result ≡ longest (numeral most) field.now }
 {
     if field.starts_with(b"0") {
         return 1;
     }
     field
         .iter()
-        .take(7)
+        .take(most)
         .take_while(|byte| byte.is_ascii_digit())
         .count()
 }

@@ -1,7 +1,7 @@
 use crate::cut::{field, field_count};
 use crate::fault::{FieldFault, FieldPlace};
 use crate::labels::labels;
-use crate::number::number;
+use crate::number::{long_number, number};
 
 // What is read of a set of labels, with the flags in place of the set.
 fn flags(field: &[u8]) -> Result<[bool; 16], FieldFault> {
@@ -35,6 +35,17 @@ fn numbers(rt: HostRuntime) {
     assert_eq!(rt; number(b"3x", 1), no_number(1));
     assert_eq!(rt; number(b"x", 1), no_number(0));
     assert_eq!(rt; number(b"", 1), no_number(0));
+}
+
+#[test]
+fn long_numbers(rt: HostRuntime) {
+    assert_eq!(rt; long_number(b"0"), Some(0));
+    assert_eq!(rt; long_number(b"9999999999"), Some(9_999_999_999));
+    assert_eq!(rt; long_number(b"12345678901"), None);
+    assert_eq!(rt; long_number(b"01"), None);
+    assert_eq!(rt; long_number(b"+1"), None);
+    assert_eq!(rt; long_number(b"1,"), None);
+    assert_eq!(rt; long_number(b""), None);
 }
 
 #[test]

@@ -5,7 +5,7 @@ use Rattle.std.proofs.lemmas.Bool.{cases_Bool}
 use mathlib.Core.Path.{fun_ext}
 use Rattle.std.proofs.lemmas.Bool.Decides.{same_from_decides}
 use Rattle.model.specs.Mdp.{Mdp, Row, Lawful, hold, to}
-use Rattle.theory.proofs.Found.{extremal_verdicts}
+use Rattle.theory.specs.Found.{extremal_verdicts}
 use Rattle.theory.specs.Rules.{RuleLaws}
 use Rattle.theory.specs.Rounds.{rounds}
 use Rattle.theory.specs.Mixes.{mix_down, mix_up}

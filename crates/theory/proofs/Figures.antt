@@ -6,7 +6,7 @@ use Rattle.theory.specs.Tallies.{tally}
 use Rattle.theory.specs.Mixes.{whole, greater, lesser}
 use Rattle.theory.specs.Ends.{lower, upper}
 use Rattle.theory.specs.Formulas.{truth, label, probability, until, at_most, above, at_least, Holds}
-use Rattle.theory.proofs.Found.{verdicts}
+use Rattle.theory.specs.Found.{verdicts}
 use Rattle.theory.proofs.Judge.{sound}
 
 -- labels: state 1 has a, in R state 2 has b

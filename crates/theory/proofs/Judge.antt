@@ -12,7 +12,7 @@ use Rattle.theory.specs.WithoutSteps.{Extremal, over_none, at_most_none, at_leas
 use Rattle.theory.specs.Formulas.{PathFormula, PathHolds, probability, until_within, until, extremal, Under, Comparison, below, at_most, above, at_least, Formula, truth, label, negation, conjunction, next, Fits, SetOf, Holds}
 use Rattle.theory.specs.Verdicts.{Correct, fits, VerdictSets, next_verdicts, until_within_verdicts, asked, harder_end, easier_end}
 use Rattle.theory.specs.Distances.{Harder}
-use Rattle.theory.proofs.Found.{until_verdicts, path_verdicts, extremal_verdicts, verdicts}
+use Rattle.theory.specs.Found.{until_verdicts, path_verdicts, extremal_verdicts, verdicts}
 use Rattle.theory.proofs.Ends.{best_none_above, best_some, worst_none_below, worst_some}
 use Rattle.theory.proofs.Between.{Subset, tally_below, next_below, next_none_above, next_none_below, next_best_some, next_worst_some}
 use Rattle.theory.proofs.Compare.{fits_test, fits_harder, fits_times, fits_part}

@@ -6,10 +6,10 @@ use Rattle.theory.specs.Formulas.{Comparison, Formula, truth, label, negation, c
 use Rattle.theory.specs.Verdicts.{VerdictSets, Alike, SameVerdicts, known, negated, joined, next_verdicts, until_within_verdicts, ExtremalJudged, UntilJudged, Judged, PathJudged, OneVerdict, VerdictsCorrect}
 use Rattle.theory.specs.Distances.{Decided, Undecided, UntilNear, NextNear, WithoutStepsDecided}
 use Rattle.theory.proofs.Meaning.{marked_iff, hardest, hardest_next}
-use Rattle.theory.proofs.Found.{extremal_verdicts, until_verdicts, verdicts, path_verdicts}
+use Rattle.theory.specs.Found.{extremal_verdicts, until_verdicts, verdicts, path_verdicts, UndecidedNear, VerdictMeans, AllJudgedRightly}
 use Rattle.theory.proofs.Alike.{next_verdicts_alike, until_within_verdicts_alike, extremal_verdicts_alike}
 use Rattle.theory.proofs.Judge.{sound}
-use Rattle.theory.proofs.Near.{same_set, within_value, next_value, formula_near, formula_next_near, extremal_decided}
+use Rattle.theory.proofs.Near.{same_set, one_set, within_value, next_value, formula_near, formula_next_near, extremal_decided}
 
 -- verdicts are the same as themselves
 same_refl : (m : Mdp) (v : VerdictSets) → SameVerdicts m v v
@@ -20,11 +20,11 @@ same_trans : (m : Mdp) (u v w : VerdictSets) → SameVerdicts m u v → SameVerd
 same_trans m u v w x y = record { sures = λ s p. x.sures s p ∙ y.sures s p; possibles = λ s p. x.possibles s p ∙ y.possibles s p }
 
 -- not keeps sameness
-negated_alike : (m : Mdp) (v w : VerdictSets) → SameVerdicts m v w → SameVerdicts m (negated v) (negated w)
+pub negated_alike : (m : Mdp) (v w : VerdictSets) → SameVerdicts m v w → SameVerdicts m (negated v) (negated w)
 negated_alike m v w x = record { sures = λ s p. ap not (x.possibles s p); possibles = λ s p. ap not (x.sures s p) }
 
 -- and keeps sameness
-joined_alike : (m : Mdp) (v v' w w' : VerdictSets) → SameVerdicts m v v' → SameVerdicts m w w' → SameVerdicts m (joined v w) (joined v' w')
+pub joined_alike : (m : Mdp) (v v' w w' : VerdictSets) → SameVerdicts m v v' → SameVerdicts m w w' → SameVerdicts m (joined v w) (joined v' w')
 joined_alike m v v' w w' x y = record { sures = λ s p. ap₂ ◌&&◌ (x.sures s p) (y.sures s p); possibles = λ s p. ap₂ ◌&&◌ (x.possibles s p) (y.possibles s p) }
 
 module _ (m : Mdp) (l : Lawful m) where
@@ -140,3 +140,27 @@ without_steps_decided m l c b f g v w u i j h x y =
     let e = only_found m l (probability c b (until f g)) u h in
     let d = extremal_decided m l (extremal c b) (verdicts m f) (verdicts m g) (decided_same m v (verdicts m f) (only_found m l f v i) x) (decided_same m w (verdicts m g) (only_found m l g w j) y) in
     λ s p. e.sures s p ∙ d s p ∙ sym (e.possibles s p)
+
+module _ (m : Mdp) (l : Lawful m) (s : ℕ) (p : s < m.states) where
+  -- an undecided formula is near its bound
+  undecided_near : (f : Formula) → Undecided (verdicts m f) s → UndecidedNear m f s
+  undecided_near truth u = tt
+  undecided_near (label i) u = tt
+  undecided_near (negation f) u = tt
+  undecided_near (conjunction f g) u = tt
+  undecided_near (probability c b (next f)) u = λ x set q. let e = next_value m l s p c set in (hardest_next c set m s, e, formula_next_near m l c b f x s p u set q (hardest_next c set m s) e)
+  undecided_near (probability c b (until_within k f g)) u = λ x y left right q r.
+      let e = within_value m l s p c left right k in (hardest c left right k m s, e, formula_near m l c b k f g x y s p u left right q r (hardest c left right k m s) e)
+  undecided_near (probability c b (until f g)) u = λ x y. let e = extremal_decided m l (extremal c b) (verdicts m f) (verdicts m g) x y s p in absurd cc
+
+  -- what a verdict means
+  verdict_means : (f : Formula) → VerdictMeans m f s
+  verdict_means f = record {
+    yes_holds = (sound m l f s p).yes_holds;
+    no_fails = λ e h. let x = (sound m l f s p).holds_possible h in absurd cc;
+    undecided_near = undecided_near f;
+  }
+
+-- so every formula is judged rightly
+pub all_judged_rightly : AllJudgedRightly
+all_judged_rightly m l f = record { defined = found m l f; only = only_found m l f; meant = λ s p. verdict_means m l s p f; one_set = one_set m l f }

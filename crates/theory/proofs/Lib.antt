@@ -13,7 +13,6 @@ pub mod Exact
 pub mod Between
 pub mod Compare
 pub mod Meaning
-pub mod Found
 pub mod Judge
 pub mod Bridge
 pub mod Near

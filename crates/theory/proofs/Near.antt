@@ -11,7 +11,7 @@ use Rattle.theory.specs.WithoutSteps.{Extremal, over_none, at_most_none, at_leas
 use Rattle.theory.specs.Formulas.{OneSet, probability, until_within, Comparison, below, at_most, above, at_least, Formula, next, SetOf, Holds}
 use Rattle.theory.specs.Verdicts.{asked, easier_end, VerdictSets, next_verdicts, until_within_verdicts, known, harder_end, fits}
 use Rattle.theory.specs.Distances.{QueriesCorrect, Harder, StateValue, WithinUnits, Decided, Undecided}
-use Rattle.theory.proofs.Found.{until_verdicts, verdicts}
+use Rattle.theory.specs.Found.{until_verdicts, verdicts}
 use Rattle.theory.proofs.RuleLaws.{up_greater, up_lesser}
 use Rattle.theory.proofs.Ends.{greater_close, lesser_close, rounds_close, ends_close, KeepsClose}
 use Rattle.theory.proofs.Alike.{held_alike, next_alike, marked_alike}

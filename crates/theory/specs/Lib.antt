@@ -8,3 +8,4 @@ pub mod WithoutSteps
 pub mod Formulas
 pub mod Verdicts
 pub mod Distances
+pub mod Found

@@ -6,6 +6,7 @@ ghost use Rattle.theory.specs.Ends.{EndsBound, NextEndsBound};
 ghost use Rattle.theory.specs.WithoutSteps.{MarksDecide};
 ghost use Rattle.theory.specs.Formulas.{OneSet};
 ghost use Rattle.theory.specs.Verdicts.{OneVerdict, VerdictsCorrect};
+ghost use Rattle.theory.specs.Found.{AllJudgedRightly};
 ghost use Rattle.theory.specs.Distances.{UntilNear, NextNear, WithoutStepsDecided, QueriesCorrect};
 
 // a lawful model has an allowed adversary
@@ -76,4 +77,9 @@ pub fn untils_without_steps_are_decided()
 // the verdicts of one query are true, and an undecided state lies within k units of the bound
 pub fn queries_are_correct()
     ensures { QueriesCorrect }
+{}
+
+// every formula is judged rightly: what rounds and marks find are its only verdicts, a yes holds, a no fails, and an undecided state is near its bound
+pub fn formulas_are_judged_rightly()
+    ensures { AllJudgedRightly }
 {}

@@ -2,6 +2,12 @@
 // the program. It may use the console crate and those below it.
 #![tactic(auto)]
 
+mod lines;
+
+use crate::lines::{
+    FILES, FORMULAS, LADDERS, REFUSED, REFUSED_FORMULAS, REFUSED_LADDERS, REFUSED_ROUNDS,
+    REFUSED_TRIALS, ROUNDS, TRIALS, WRONG, WRONG_FORMULAS, WRONG_ROUNDS, WRONG_TRIALS,
+};
 use console::answer::{path, reply};
 use console::reply::Reply;
 use layers::hold::Hold;
@@ -14,72 +20,26 @@ use std::io::Write;
 use std::{fs, io};
 use tables::tables::Tables;
 
-// Command lines that print a file.
-const FILES: &[&str] = &[
-    "kavzhubo help",
-    "kavzhubo show relearn.mdp",
-    "kavzhubo write relearn.mdp",
-];
-
-// Command lines that print a ladder.
-const LADDERS: &[&str] = &[
-    "kavzhubo show ladder:2:4:3",
-    "kavzhubo write ladder:2:4:3",
-    "kavzhubo write ladder:1:1:1",
-];
-
-// Command lines whose file is refused.
-const REFUSED: &[&str] = &[
-    "kavzhubo show unended.mdp",
-    "kavzhubo show word.mdp",
-    "kavzhubo show long.mdp",
-    "kavzhubo show fields.mdp",
-    "kavzhubo show number.mdp",
-    "kavzhubo write crlf.mdp",
-    "kavzhubo show range.mdp",
-    "kavzhubo show labels.mdp",
-    "kavzhubo show accent.mdp",
-    "kavzhubo show order.mdp",
-    "kavzhubo write sum.mdp",
-    "kavzhubo show states.mdp",
-    "kavzhubo show missing.mdp",
-    "kavzhubo show noend.mdp",
-];
-
-// Command lines whose ladder is refused.
-const REFUSED_LADDERS: &[&str] = &[
-    "kavzhubo show ladder:0:4:3",
-    "kavzhubo show ladder:2:0:3",
-    "kavzhubo write ladder:2:4:5",
-];
-
-// Command lines that are wrong.
-const WRONG: &[&str] = &[
-    "kavzhubo",
-    "kavzhubo chart relearn.mdp",
-    "kavzhubo show",
-    "kavzhubo show relearn.mdp twice",
-    "kavzhubo show ladder:2:4",
-    "kavzhubo show ladder:2:4:3:1",
-    "kavzhubo write ladder:2:04:3",
-    "kavzhubo write ladder",
-    "kavzhubo show ./ladder:2:4:3",
-];
-
-// The words of a command line, after the program's name.
+// The words of a command line, after the program's name, without the quotes around a formula.
 fn words(heap: Global, line: &str) -> Result<Vec<String>, AllocError> {
     line.split_whitespace()
         .skip(1)
-        .map(|word| String::from_str(heap, word))
+        .map(|word| String::from_str(heap, word.trim_matches('\'')))
         .try_collect(heap)
+}
+
+// The bytes of the file with this number that the words of a command line name, if they name one and that can be read.
+fn file(rt: &HostRuntime, args: &[String], number: usize) -> Option<Vec<u8>> {
+    path(args, number).and_then(|path| fs::read(rt, path).ok())
 }
 
 // Plays a command line: prints it, what the program answers to it, and the exit status.
 fn play(rt: &HostRuntime, line: &str) -> io::Result<()> {
     let args = words(rt.alloc(), line)?;
-    let file = path(args.as_slice()).and_then(|path| fs::read(rt, path).ok());
+    let args = args.as_slice();
+    let (model, calls) = (file(rt, args, 0), file(rt, args, 1));
     println!(rt; "\n$ {line}")?;
-    match reply(rt.alloc(), args.as_slice(), file.as_deref())? {
+    match reply(rt.alloc(), args, model.as_deref(), calls.as_deref())? {
         Reply::Printed(text) => {
             rt.stdout().write_all(text.as_slice())?;
             rt.println("(exit status 0)")
@@ -171,5 +131,18 @@ fn main(rt: HostRuntime) -> io::Result<()> {
     play_all(&rt, "Ladders.", LADDERS)?;
     play_all(&rt, "Refused files, in the order of the numbers.", REFUSED)?;
     play_all(&rt, "Refused ladders.", REFUSED_LADDERS)?;
-    play_all(&rt, "Wrong command lines, and paths of no file.", WRONG)
+    play_all(&rt, "Wrong command lines, and paths of no file.", WRONG)?;
+    play_all(&rt, "Rounds.", ROUNDS)?;
+    play_all(&rt, "Refused rounds.", REFUSED_ROUNDS)?;
+    play_all(&rt, "Wrong command lines of rounds.", WRONG_ROUNDS)?;
+    play_all(&rt, "Formulas.", FORMULAS)?;
+    play_all(
+        &rt,
+        "Refused formulas, in the order of the numbers.",
+        REFUSED_FORMULAS,
+    )?;
+    play_all(&rt, "Wrong command lines of formulas.", WRONG_FORMULAS)?;
+    play_all(&rt, "Trials.", TRIALS)?;
+    play_all(&rt, "Trials of refused models.", REFUSED_TRIALS)?;
+    play_all(&rt, "Wrong command lines of trials.", WRONG_TRIALS)
 }

@@ -30,14 +30,6 @@ module _ (stop : ℕ → Bool) (i : ℕ) (flags : List Bool) (part : Partly stop
         above = λ s k. let ne : s ≢ i = omega arith in rw get_or-set_other (part.above s (omega arith));
       }
 
-  -- the next flag stays as it is
-  pub partly_skip : stop i ≡ false → Partly stop (i + 1) flags
-  partly_skip e = record {
-    long = part.long;
-    below = below_more _ _ part.below (part.above i (omega arith) ∙ sym e);
-    above = λ s k. part.above s (omega arith);
-  }
-
 -- where x and the rest come after the first i of a list, x stands at i, and the rest comes after the first i + 1
 pub next_at : (xs : List ℕ) (i : ℕ) {x : ℕ} {now rest : List ℕ} → now ≡ drop i xs → now ≡ x ∷ rest → (i < length xs) × (get_or xs i 0 ≡ x) × (rest ≡ drop (i + 1) xs)
 next_at xs i from next =

@@ -1,22 +1,15 @@
 -- Rows of a formula: the row that is worked out from the rows of its parts is its own.
-use Rattle.std.proofs.Common.{◌≡◌, ℕ, not, Some, None, Option, refl, ap}
+use Rattle.std.proofs.Common.{◌≡◌, ℕ, Some, None, Option, refl}
 use Rattle.model.specs.Mdp.{Mdp, Lawful}
 use Rattle.theory.specs.WithoutSteps.{Extremal}
 use Rattle.theory.specs.Formulas.{Comparison, Formula, negation, conjunction, probability, next, until_within, until, extremal}
 use Rattle.theory.specs.Verdicts.{VerdictSets, SameVerdicts, negated, joined, next_verdicts, until_within_verdicts}
-use Rattle.theory.proofs.Found.{verdicts, until_verdicts}
+use Rattle.theory.specs.Found.{verdicts, until_verdicts}
 use Rattle.theory.proofs.Judge.{sound}
+use Rattle.theory.proofs.Judged.{negated_alike, joined_alike}
 use Rattle.theory.proofs.Alike.{next_verdicts_alike, until_within_verdicts_alike, extremal_verdicts_alike}
 use Rattle.trial.specs.Rows.{sets, bytes}
 use Rattle.trial.proofs.Bytes.{bytes_sets, bytes_same}
-
--- a negation of the same verdicts
-negated_alike : (m : Mdp) (v v' : VerdictSets) → SameVerdicts m v v' → SameVerdicts m (negated v) (negated v')
-negated_alike m v v' x = record { sures = λ s h. ap not (x.possibles s h); possibles = λ s h. ap not (x.sures s h) }
-
--- a conjunction of them
-joined_alike : (m : Mdp) (v v' w w' : VerdictSets) → SameVerdicts m v v' → SameVerdicts m w w' → SameVerdicts m (joined v w) (joined v' w')
-joined_alike m v v' w w' x y = record { sures = λ s h. rw (x.sures s h, y.sures s h); possibles = λ s h. rw (x.possibles s h, y.possibles s h) }
 
 module _ (m : Mdp) (l : Lawful m) where
   -- an until without steps of them

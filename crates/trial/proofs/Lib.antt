@@ -6,3 +6,5 @@ pub mod Bytes
 pub mod PathRows
 pub mod SettledMarks
 pub mod FormulaRows
+pub mod Evaluation
+pub mod Judging

@@ -1,13 +1,11 @@
--- Rows of path formulas: marks at the front of a list, the model of a layer, ends in parts, and a row that is read off them.
-use Rattle.std.proofs.Common.{◌≡◌, ℕ, ◌<◌, Bool, false, eqb, List, get_or, take, refl, ap, ◌∙◌, subst, inl, inr, get_or-take}
-use Rattle.std.proofs.lemmas.Bool.{cases_Bool}
-use Rattle.model.specs.Mdp.{Mdp, Lawful, hold}
-use Rattle.layers.specs.Holds.{held_model}
+-- Rows of path formulas: marks at the front of a list, ends in parts, and the two ends at a state.
+use Rattle.std.proofs.Common.{◌≡◌, ℕ, ◌<◌, ◌≤◌, Bool, eqb, ltb, None, Some, Option, sym, List, get_or, take, refl, ap, ◌∙◌, inl, inr, arith, get_or-take}
+use Rattle.std.proofs.lemmas.Bool.{cases_Bool, cond-true, cond-false, lt-ltb, le-ltb}
+use Rattle.model.specs.Mdp.{Mdp, Lawful}
 use Rattle.theory.specs.Rules.{RuleLaws}
 use Rattle.theory.specs.Rounds.{rounds}
 use Rattle.theory.specs.Ends.{start}
-use Rattle.theory.specs.Verdicts.{asked, read_off}
-use Rattle.theory.proofs.Alike.{hold_same}
+use Rattle.theory.specs.Verdicts.{asked}
 use Rattle.theory.proofs.Bridge.{rounds_same}
 use Rattle.records.specs.declared.comparison.Comparison.{Comparison}
 use Rattle.records.specs.declared.comparison.Comparison.TheVariants.{Below, AtMost, Above, AtLeast}
@@ -15,28 +13,19 @@ use Rattle.rules.specs.declared.part.Part.{Part}
 use Rattle.rules.specs.declared.preference.Preference.{Preference}
 use Rattle.rules.specs.declared.rounding.Rounding.{Rounding}
 use Rattle.rules.specs.declared.parts.Parts.{Parts}
-use Rattle.rules.specs.Parts.{units_of, prefers_number, prefers_part, mix_rounded, in_parts}
+use Rattle.rules.specs.Parts.{part_of, units_of, prefers_number, prefers_part, mix_rounded, in_parts}
 use Rattle.rules.specs.Values.{told}
-use Rattle.rules.specs.PartsLemmas.{numbers_lawful, parts_rounds}
-use Rattle.rounds.proofs.Lists.{listed_same}
+use Rattle.rules.specs.PartsLemmas.{part_same, numbers_lawful, parts_rounds}
 use Rattle.formula.specs.Tokens.{meant}
 use Rattle.trial.specs.Aims.{preference_of, aim_for}
 use Rattle.trial.specs.Queries.{marked}
-use Rattle.trial.specs.VerdictBytes.{verdict_number, read_verdict}
-use Rattle.trial.specs.Rows.{byte_at, bytes, start_part}
+use Rattle.trial.specs.Rows.{start_part}
+use Rattle.trial.specs.declared.two_ends.Ends.{Ends}
+use Rattle.trial.specs.PathEnds.{EndsAre, ends_at}
 
 -- the marks of the states are those at the front of a longer list
 pub marked_front : (n : ℕ) (marks : List ℕ) (set : ℕ → Bool) → ((s : ℕ) → s < n → marked marks s ≡ set s) → (s : ℕ) → s < n → marked (take n marks) s ≡ set s
 marked_front n marks set e s h = ap (λ (b : ℕ). eqb b 1) (get_or-take n marks s 0 h) ∙ e s h
-
--- a layer whose flags are those of a set, over a source of the model m, stands for m with that set held
-pub layer_model : (m m' : Mdp) → m' ≡ m → (flags : List Bool) (stop : ℕ → Bool) → ((s : ℕ) → s < m.states → get_or flags s false ≡ stop s) → held_model m' flags ≡ hold stop m
-layer_model m m' e flags stop h = ap (λ (x : Mdp). held_model x flags) e ∙ hold_same m (λ s. get_or flags s false) stop h
-
--- so rounds over the layer are rounds over that model
-pub rounds_over : (preferred : Part → Part → Bool) (mix : ℕ → List (ℕ × Part) → Part) (v : ℕ → Part) (m m' : Mdp) → m ≡ m' → (k s : ℕ) (x : Part) →
-    (s < m.states → x ≡ rounds preferred mix k m v s) → s < m'.states → x ≡ rounds preferred mix k m' v s
-rounds_over preferred mix v m m' e k s x = subst (λ (z : Mdp). s < z.states → x ≡ rounds preferred mix k z v s) e
 
 -- the start in parts has the units of the start
 pub start_units : (set : ℕ → Bool) (s : ℕ) → units_of (start_part set s) ≡ start set s
@@ -58,23 +47,24 @@ ends_units x r p e f m l set k s h z found =
     ∙ rounds_same (prefers_number p) (mix_rounded r) (numbers_lawful r p) m l (λ t. units_of (start_part set t)) (start set) (λ t q. start_units set t) k s h
 
 -- the aim that a comparison is decided by prefers as the comparison asks
-asked_for : (c : Comparison) → prefers_number (preference_of (aim_for c)) ≡ asked (meant c)
+pub asked_for : (c : Comparison) → prefers_number (preference_of (aim_for c)) ≡ asked (meant c)
 asked_for Below = refl
 asked_for AtMost = refl
 asked_for Above = refl
 asked_for AtLeast = refl
 
-module _ (n : ℕ) (c : Comparison) (b : ℕ) (d : Part) (lower upper : List Part) (lo hi : (ℕ → ℕ → Bool) → ℕ → ℕ)
-    (lows : (s : ℕ) → s < n → units_of (get_or lower s d) ≡ lo (prefers_number (preference_of (aim_for c))) s)
-    (highs : (s : ℕ) → s < n → units_of (get_or upper s d) ≡ hi (prefers_number (preference_of (aim_for c))) s) where
-  -- a row that is read off lists of ends that were found with the comparison's preference is the row of the verdicts that are read off these ends
-  pub row_read : (row : List ℕ) (k : ℕ) → k ≡ n → row ≡ bytes k (read_off (meant c) b (λ s. units_of (get_or lower s d)) (λ s. units_of (get_or upper s d))) →
-      row ≡ bytes n (read_off (meant c) b (lo (asked (meant c))) (hi (asked (meant c))))
-  row_read row k long written =
-      let found = read_off (meant c) b (λ s. units_of (get_or lower s d)) (λ s. units_of (get_or upper s d)) in
-      let prefers = prefers_number (preference_of (aim_for c)) in
-      let byte : ℕ → ℕ → ℕ = λ x y. verdict_number (read_verdict (meant c) b x y) in
-      written ∙ ap (λ (j : ℕ). bytes j found) long
-      ∙ listed_same n (byte_at found) (byte_at (read_off (meant c) b (lo prefers) (hi prefers))) 0
-      (λ s h. ap (λ (x : ℕ). byte x (units_of (get_or upper s d))) (lows s h) ∙ ap (byte (lo prefers s)) (highs s h))
-      ∙ ap (λ (q : ℕ → ℕ → Bool). bytes n (read_off (meant c) b (lo q) (hi q))) (asked_for c)
+-- the ends at a state that there is
+pub ends_there : (n : ℕ) (lo hi : ℕ → ℕ) (e : Ends) → EndsAre n lo hi e → (s : ℕ) → s < n → (low high : Part) → ((d : Part) → low ≡ get_or e.lower.values s d) → ((d : Part) → high ≡ get_or e.upper.values s d) →
+    Some (low, high) ≡ ends_at n lo hi s
+ends_there n lo hi e x s h low high f g =
+    let d = part_of 0 in
+    let a : units_of low ≡ lo s = ap units_of (f d) ∙ x.lower d s h in
+    let b : units_of high ≡ hi s = ap units_of (g d) ∙ x.upper d s h in
+    let first : low ≡ part_of (lo s) = part_same low (part_of (lo s)) (omega (arith, a, low.within)) in
+    let second : high ≡ part_of (hi s) = part_same high (part_of (hi s)) (omega (arith, b, high.within)) in
+    let made : Part → Part → Option (Part × Part) = λ p q. Some (p, q) in
+    ap (λ p. made p high) first ∙ ap (made (part_of (lo s))) second ∙ sym (cond-true (ltb s n) (made (part_of (lo s)) (part_of (hi s))) None (lt-ltb s n h))
+
+-- there are none at any other
+pub ends_past : (n : ℕ) (lo hi : ℕ → ℕ) (s : ℕ) → n ≤ s → None ≡ ends_at n lo hi s
+ends_past n lo hi s h = sym (cond-false (ltb s n) (Some (part_of (lo s), part_of (hi s))) None (le-ltb s n h))

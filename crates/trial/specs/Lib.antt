@@ -6,3 +6,7 @@ pub mod Keeping
 pub mod Answers
 pub mod StateValues
 pub mod Rows
+pub mod Judging
+pub mod Evaluation
+pub mod PathEnds
+pub mod JudgedEnds

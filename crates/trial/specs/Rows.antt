@@ -10,7 +10,7 @@ use Rattle.theory.specs.Verdicts.{VerdictSets}
 use Rattle.trial.specs.VerdictBytes.{verdict_number, verdict_at}
 use Rattle.trial.specs.Queries.{marked}
 -- the verdicts of an until without steps, which the settled marks find on the sets of its parts
-pub use Rattle.theory.proofs.Found.{extremal_verdicts, until_verdicts}
+pub use Rattle.theory.specs.Found.{extremal_verdicts, until_verdicts}
 
 -- the verdicts that a row tells: a state is sure if its byte is 1, and possible if it is not 0
 abbrev pub sets : List ℕ → VerdictSets

@@ -15,7 +15,7 @@ use model::source::Source;
 use rules::part::Part;
 
 // Writes the byte of each state's verdict. A row is a list of bytes that the caller lends: 0 for no, 1 for yes and 2 for undecided.
-fn write_row<F: Fn(usize) -> Verdict>(row: &mut [u8], verdict: F)
+pub(crate) fn write_row<F: Fn(usize) -> Verdict>(row: &mut [u8], verdict: F)
     requires { (s : ℕ) → s < length row.old → F.pre verdict s }
     ensures long { length row.new ≡ length row.old }
     ensures written { (s : ℕ) → s < length row.old → (v : VerdictValue) × F.post verdict s v × (slice_index row.new s ≡ verdict_number v) }
@@ -80,21 +80,5 @@ pub(crate) fn mark_row(sures: &PerState<bool>, possibles: &PerState<bool>, row: 
     write_row(
         row,
         |state| Verdict::by(sures.at(state), possibles.at(state)),
-    );
-}
-
-// The row that is read off two ends at each state.
-pub(crate) fn read_row(
-    threshold: Threshold,
-    lower: &PerState<Part>,
-    upper: &PerState<Part>,
-    row: &mut [u8],
-)
-    requires { length row.old ≤ 512 }
-    ensures { (d : PartValue) → row.new ≡ bytes (length row.old) (read_off (meant threshold.comparison) threshold.bound (λ s. units_of (slice_index_or lower.now.values s d)) (λ s. units_of (slice_index_or upper.now.values s d))) }
-{
-    write_row(
-        row,
-        |state| threshold.read_off(lower.at(state), upper.at(state)),
     );
 }

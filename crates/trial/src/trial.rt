@@ -1,12 +1,16 @@
 ghost use Rattle.std.specs.Prelude.{◌≡◌, None, Err};
 ghost use Rattle.trial.specs.declared.fault.TrialFault.{TrialFault as Faults};
+ghost use Rattle.records.specs.declared.fault.JudgeFault.{JudgeFault as JudgeFaults};
+ghost use Rattle.theory.specs.Formulas.{Formula};
+ghost use Rattle.theory.specs.Found.{JudgedRightly};
+ghost use Rattle.trial.specs.Judging.{lent, JudgeResult, query_after};
 ghost use Rattle.trial.specs.Keeping.{standing, Kept};
 ghost use Rattle.trial.specs.Answers.{answer, start_fault, started, advance_fault, advanced, ends_answer, verdict_answer, EndsMean, VerdictMeans};
 
 use crate::aim::Aim;
-use crate::begin::check_marks;
 use crate::ends::advance;
 use crate::fault::TrialFault;
+use crate::judge::judge_with_ends;
 use crate::state::QueryState;
 use crate::threshold::Threshold;
 use crate::until::Until;
@@ -14,6 +18,8 @@ use crate::verdict::Verdict;
 use layers::hold::Hold;
 use model::source::Source;
 use records::comparison::Comparison;
+use records::fault::JudgeFault;
+use records::record::Record;
 use rounds::run::MOST_ROUNDS;
 use rules::part::Part;
 use rules::rounding::Rounding;
@@ -49,13 +55,7 @@ impl<'a, S: Source> Trial<'a, S> {
         ensures source { self.new.layer.below.now ≡ self.old.layer.below.now }
         ensures refused { (e : Faults) → result ≡ Err e → self.new ≡ self.old }
     {
-        let source = *self.layer.below();
-        check_marks(source.states(), left, right)?;
-        let until = Until {
-            source,
-            left,
-            right,
-        };
+        let until = Until::new(*self.layer.below(), left, right)?;
         self.layer = until.layer();
         self.query = Some(QueryState::begun(&until, aim));
         Ok(())
@@ -114,5 +114,26 @@ impl<'a, S: Source> Trial<'a, S> {
             return Err(TrialFault::Aim);
         }
         Ok(Threshold { comparison, bound }.read_off(lower, upper))
+    }
+
+    // Judges the text of a formula over the source itself, whatever is held for the query. An accepted judge leaves no query
+    // standing, and a refused one leaves all as it was.
+    pub fn judge(
+        &mut self,
+        text: &[u8],
+        records: &mut [Record],
+        scratch: &mut [u8],
+        out: &mut [u8],
+    ) -> Result<usize, JudgeFault>
+        ensures answer { JudgeResult (S.Source.model self.old.layer.below.now) text.now (lent records.old scratch.old out.old) (lent records.new scratch.new out.new) result }
+        ensures query { standing (S.Source.model self.new.layer.below.now).states self.new.query ≡ query_after result (standing (S.Source.model self.old.layer.below.now).states self.old.query) }
+        ensures source { self.new.layer.below.now ≡ self.old.layer.below.now }
+        ensures refused { (e : JudgeFaults) → result ≡ Err e → self.new ≡ self.old }
+        ensures meaning { (f : Formula) → JudgedRightly (S.Source.model self.new.layer.below.now) f }
+    {
+        let source = *self.layer.below();
+        let judged = judge_with_ends(source, text, records, scratch, out)?;
+        self.query = None;
+        Ok(judged.records)
     }
 }

@@ -1,8 +1,10 @@
-ghost use Rattle.std.specs.Prelude.{◌≡◌, not, ◌||◌, length, take, ◌==◌};
+ghost use Rattle.std.specs.Prelude.{◌≡◌, not, ◌||◌, length, take, ◌==◌, None, Some, IfOk, MatchResult};
 ghost use Rattle.theory.specs.Ends.{stops};
+ghost use Rattle.trial.specs.Answers.{all_marks, start_fault};
 ghost use Rattle.trial.specs.Queries.{marked};
 ghost use Rattle.trial.specs.StateValues.{ValuesOf};
 
+use crate::fault::TrialFault;
 use crate::per_state::PerState;
 use layers::hold::Hold;
 use model::source::Source;
@@ -17,6 +19,13 @@ pub(crate) struct Until<'s, 'm, S: Source> {
     ghost right_long: { length right.now ≡ (S.Source.model source.now).states },
 }
 
+// Is every byte 0 or 1?
+fn all_marks(bytes: &[u8]) -> bool
+    ensures { result ≡ all_marks bytes.now }
+{
+    bytes.iter().all(|byte| *byte <= 1)
+}
+
 // Is an until settled at a state with these marks? It is met in right, and fails outside left.
 fn settled(left: u8, right: u8) -> bool
     ensures { result ≡ (right == 1 || not (left == 1)) }
@@ -25,6 +34,25 @@ fn settled(left: u8, right: u8) -> bool
 }
 
 impl<'s, 'm, S: Source> Until<'s, 'm, S> {
+    // The until of these marks over the source, or the first question on them whose answer is no.
+    pub(crate) fn new(source: &'s S, left: &'m [u8], right: &'m [u8]) -> Result<Self, TrialFault>
+        ensures asked { MatchResult result (λ _. start_fault (S.Source.model source.now).states left.now right.now ≡ None) (λ e. start_fault (S.Source.model source.now).states left.now right.now ≡ Some e) }
+        ensures made { IfOk result (λ u. (u.source.now ≡ source.now) × (u.left.now ≡ left.now) × (u.right.now ≡ right.now)) }
+    {
+        let states = source.states();
+        if left.len() != states || right.len() != states {
+            return Err(TrialFault::Lengths);
+        }
+        if !all_marks(left) || !all_marks(right) {
+            return Err(TrialFault::Marks);
+        }
+        Ok(Until {
+            source,
+            left,
+            right,
+        })
+    }
+
     // The until of the marks that these have for the states of the source.
     pub(crate) fn of_fronts(source: &'s S, left: &'m PerState<u8>, right: &'m PerState<u8>) -> Self
         ensures source { result.source.now ≡ source.now }

@@ -4,7 +4,7 @@ ghost use Rattle.formula.specs.Tokens.{meant};
 ghost use Rattle.theory.specs.Formulas.{extremal as extremal_of};
 ghost use Rattle.trial.specs.Rows.{sets, bound_sets, bytes, extremal_verdicts, until_verdicts};
 
-use crate::path_rows::possible_marks;
+use crate::path_ends::possible_marks;
 use crate::per_state::PerState;
 use crate::rows::{constant_row, mark_row};
 use crate::threshold::Threshold;

@@ -1,27 +1,13 @@
 use crate::calls::Question;
+use pairs::models::{RETRY, THIRDS, table};
 use records::comparison::Comparison;
 use std::test::Fail;
-use tables::tables::Tables;
 use trial::aim::Aim;
 use trial::fault::TrialFault;
 use trial::trial::Trial;
 use trial::verdict::Verdict;
 
-// State 0 tries again with 1 part out of 4 or goes to 1, or it takes 1 or 2 alike; 1 and 2 stay.
-const RETRY: &[u8] =
-    b"mdp\t3\t4\ns\t-\nc\nb\t0\t1\nb\t1\t3\nc\nb\t1\t2\nb\t2\t2\ns\ta\nc\nb\t1\t4\ns\tb\nc\nb\t2\t4\nend\n";
-
-// State 0 waits with 2 parts out of 3 and else goes to 1, which stays.
-const THIRDS: &[u8] = b"mdp\t2\t3\ns\t-\nc\nb\t0\t2\nb\t1\t1\ns\ta\nc\nb\t1\t3\nend\n";
-
 const WHOLE: u64 = 1_000_000_000;
-
-// The table of a text.
-fn table(rt: &HostRuntime, text: &[u8]) -> Result<Tables, Fail> {
-    let mut tables = Tables::new(rt.alloc())?;
-    tables.load(text)?;
-    Ok(tables)
-}
 
 // What state 0 of RETRY answers after two rounds towards state 1.
 fn retried(
@@ -31,7 +17,7 @@ fn retried(
     comparison: Comparison,
     bound: u64,
 ) -> Result<(u32, u32, u64, Verdict), Fail> {
-    let source = table(rt, RETRY)?;
+    let source = table(rt.alloc(), RETRY)?;
     let question = Question {
         left,
         right: &[0, 1, 0],
@@ -90,7 +76,7 @@ fn outside_left(rt: HostRuntime) -> Result<(), Fail> {
 
 #[test]
 fn thirds_are_undecided(rt: HostRuntime) -> Result<(), Fail> {
-    let source = table(&rt, THIRDS)?;
+    let source = table(rt.alloc(), THIRDS)?;
     for (bound, verdict) in [
         (555_555_554, Verdict::No),
         (555_555_555, Verdict::Undecided),
@@ -126,7 +112,7 @@ const ANSWERED: Question<'static> = Question {
 
 // The number that a question on THIRDS is refused with, or 0, the value expected where nothing is refused.
 fn refusal(rt: &HostRuntime, question: Question<'_>) -> Result<u8, Fail> {
-    let source = table(rt, THIRDS)?;
+    let source = table(rt.alloc(), THIRDS)?;
     match question.ask(&source) {
         Ok(_) => Ok(0),
         Err(fault) => Ok(fault.number()),
@@ -179,7 +165,7 @@ fn edges_of_queries(rt: HostRuntime) -> Result<(), Fail> {
 
 #[test]
 fn no_query(rt: HostRuntime) -> Result<(), Fail> {
-    let source = table(&rt, THIRDS)?;
+    let source = table(rt.alloc(), THIRDS)?;
     let mut trial = Trial::over(&source);
     assert_eq!(rt; trial.advance(0), Err(TrialFault::NoQuery));
     assert_eq!(rt;

@@ -1,30 +1,32 @@
-use Rattle.std.proofs.Common.{refl, ⊎_elim, arith}
+use Rattle.std.proofs.Common.{refl, Err, subst}
 use Rattle.std.proofs.lemmas.Result.{err_from_is_err_and}
 use Rattle.grammar.proofs.Readings.{one_reading}
+use Rattle.formula.specs.Answers.{JudgeAnswer}
 use Rattle.formula.proofs.Limits.{limits}
 use Rattle.formula.proofs.Places.{places}
+use Rattle.formula.proofs.Whole.{broken_off, filled, refusal_keeps}
 use Rattle.formula.proofs.reader.read_formula.Goals as goal
-
-pub returns-then-text-lt1 : goal.returns-then-text-lt1
-returns-then-text-lt1 c = record {
-  reading = one_reading;
-  limits = limits;
-  places = places;
-  answer = (λ h. ⊎_elim (λ short. omega (arith, short, h.0)) (λ long. omega (arith, long.1, h.1)) c.then-text-lt1.either, refl);
-}
 
 pub returns-in_err-count : goal.returns-in_err-count
 returns-in_err-count c = record {
   reading = one_reading;
   limits = limits;
   places = places;
-  answer = let p = err_from_is_err_and c.from_residual.result c.from_residual.ensures.1 in rw (p.1, p.2) ((omega arith, omega arith), c.in_err-count.ensures);
+  answer =
+      let p = err_from_is_err_and c.from_residual.result c.from_residual.ensures.1 in
+      let (left, s) = c.in_err-count.ensures c.args.records.now refl in
+      rw (p.1, p.2) (subst (λ x. JudgeAnswer c.args.text.now c.args.records.now x (Err c.in_err-count.field-0.0)) (refusal_keeps _ _ left c.in_err-count.field-0.0 s) s);
 }
+
+pub unreachable-requires : goal.unreachable-requires
+unreachable-requires c =
+    let s = (c.in_ok-count.ensures c.args.records.now refl).1.1 in
+    (broken_off _ _ c.in-Err.ensures).none (s.formula, s.spelled, s.spells)
 
 pub returns : goal.returns
 returns c = record {
   reading = one_reading;
   limits = limits;
   places = places;
-  answer = ((omega arith, omega arith), c.in_ok-count.ensures);
+  answer = let (left, s) = c.in_ok-count.ensures c.args.records.now refl in (s.0, filled s.1 c.in-Ok.ensures);
 }

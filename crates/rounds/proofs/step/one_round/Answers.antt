@@ -1,6 +1,5 @@
-use Rattle.std.proofs.Common.{List, get_or, set, ap, ◌∙◌, arith, rules}
+use Rattle.std.proofs.Common.{arith, rules}
 use Rattle.std.proofs.lemmas.List.FromFn.{fill_by_all}
-use Rattle.std.proofs.lemmas.List.Edits.{fill_by_more}
 use Rattle.theory.specs.Rounds.{round}
 use Rattle.rules.specs.Values.{told}
 use Rattle.rounds.proofs.step.one_round.Goals as goal

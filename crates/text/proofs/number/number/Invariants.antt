@@ -1,6 +1,6 @@
-use Rattle.text.specs.Fields.{lawful_number}
+use Rattle.text.specs.Fields.{numeral}
 use Rattle.text.proofs.number.number.Given as goal
 
--- the test that is asked: whether the field is a lawful number
+-- the test that is asked: whether the field is a number of at most seven digits
 abbrev pub ghost-check_lawful : goal.ghost-check_lawful
-ghost-check_lawful a = lawful_number
+ghost-check_lawful a = numeral 7

@@ -1,7 +1,7 @@
 use Rattle.std.proofs.Common.{◌≡◌, cond, sym, ◌∙◌, rules}
 use Rattle.theory.specs.Rounds.{mixed}
 use Rattle.rules.specs.Values.{told}
-use Rattle.rounds.proofs.Bests.{best_first, best_more, best_all}
+use Rattle.rounds.proofs.Bests.{best_first, best_more}
 use Rattle.std.proofs.lemmas.Bool.{cond-true, cond-false}
 use Rattle.rounds.proofs.round.Round.best_mix.Goals as goal
 use Rattle.rounds.proofs.round.Round.best_mix.Goals.{then-not-prefers, else-not-prefers}

@@ -5,7 +5,7 @@ use Rattle.std.specs.Iterator.Adapters.{enumerate_source, enumerate_count, zip_f
 use Rattle.std.specs.Slice.Iter.{iter_rest}
 use Rattle.theory.specs.Ends.{stops}
 use Rattle.trial.specs.Queries.{marked}
-use Rattle.trial.proofs.Flags.{partly_none, partly_set, partly_skip, next_at}
+use Rattle.trial.proofs.Flags.{partly_none, partly_set, next_at}
 use Rattle.trial.proofs.until.Until.layer.Goals as goal
 
 -- no flag is set at first
@@ -39,7 +39,6 @@ loop-state-preserved-then-settled g c =
       right_rest = rw step.2 right.2;
     }
 
--- another is not
 -- at the end the flags of all states are those of the settled ones
 pub returns-clause-held : goal.returns-clause-held
 returns-clause-held g c d s h =

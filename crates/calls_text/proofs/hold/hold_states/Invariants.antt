@@ -1,0 +1,14 @@
+use Rattle.std.proofs.Common.{◌≡◌, drop, take, string_bytes}
+use Rattle.layers.specs.Holds.{held_model}
+use Rattle.calls_text.specs.Holdings.{holds_text, all_held}
+use Rattle.calls_text.proofs.hold.hold_states.Given as goal
+
+-- the states so far are held, and what came of them is printed
+abbrev pub invariant-loop-state : goal.invariant-loop-state
+invariant-loop-state g l =
+    let m = g.S.Source.model l.fn.layer.below in
+    record {
+      told : string_bytes l.out ≡ holds_text m.states (take l.state-index l.states);
+      below : l.layer.below ≡ l.fn.layer.below;
+      model : all_held (drop l.state-index l.states) (held_model m l.layer.held) ≡ all_held l.states (held_model m l.fn.layer.held);
+    }

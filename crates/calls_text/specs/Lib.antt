@@ -1,0 +1,10 @@
+pub mod Words
+pub mod Requests
+pub mod Texts
+pub mod Refusals
+pub mod RecordTexts
+pub mod AnswerTexts
+pub mod Prints
+pub mod VerdictEnds
+pub mod Mistakes
+pub mod Holdings

@@ -1,0 +1,115 @@
+ghost use Rattle.std.specs.Prelude.{◌≡◌, IfOk, string_bytes, vec_items};
+ghost use Rattle.calls_text.specs.AnswerTexts.{done_text, pair_text, ends_text, verdict_word, told_ends, verdict_text, judge_text};
+
+use crate::record_text::{record_lines, row_text};
+use crate::refusals::trial_refusal;
+use formula_text::words::judge_line;
+use records::fault::JudgeFault;
+use records::record::Record;
+use rules::part::Part;
+use std::alloc::{AllocError, Global};
+use trial::fault::TrialFault;
+use trial::verdict::Verdict;
+
+// What is printed of a call that answers no more than that it was accepted.
+pub(crate) fn done_text(heap: Global, answer: Result<(), TrialFault>) -> Result<String, AllocError>
+    ensures { IfOk result (λ s. string_bytes s ≡ done_text answer) }
+{
+    match answer {
+        Ok(()) => String::from_str(heap, "ok\n"),
+        Err(fault) => trial_refusal(heap, fault),
+    }
+}
+
+// A lower and an upper end, and after how many rounds.
+fn pair_text(heap: Global, ends: (Part, Part, u64)) -> Result<String, AllocError>
+    ensures { IfOk result (λ s. string_bytes s ≡ pair_text ends) }
+{
+    let (lower, upper, rounds) = ends;
+    let lower = lower.units();
+    let upper = upper.units();
+    format!(in heap; " {lower} {upper} after {rounds}")
+}
+
+// What is printed of the ends.
+pub(crate) fn ends_text(
+    heap: Global,
+    answer: Result<(Part, Part, u64), TrialFault>,
+) -> Result<String, AllocError>
+    ensures { IfOk result (λ s. string_bytes s ≡ ends_text answer) }
+{
+    match answer {
+        Ok(ends) => {
+            let pair = pair_text(heap, ends)?;
+            format!(in heap; "ends{pair}\n")
+        }
+        Err(fault) => trial_refusal(heap, fault),
+    }
+}
+
+// The word of a verdict.
+fn verdict_word(verdict: Verdict) -> &'static str
+    ensures { result.now ≡ verdict_word verdict }
+{
+    match verdict {
+        Verdict::No => "no",
+        Verdict::Yes => "yes",
+        Verdict::Undecided => "undecided",
+    }
+}
+
+// The ends that stand behind a verdict, if they were answered.
+fn told_ends(
+    heap: Global,
+    ends: Option<Result<(Part, Part, u64), TrialFault>>,
+) -> Result<String, AllocError>
+    ensures { IfOk result (λ s. string_bytes s ≡ told_ends ends) }
+{
+    match ends {
+        Some(Ok(ends)) => pair_text(heap, ends),
+        _ => Ok(String::new(heap)),
+    }
+}
+
+// What is printed of a verdict, with these ends behind it.
+pub(crate) fn verdict_text(
+    heap: Global,
+    ends: Option<Result<(Part, Part, u64), TrialFault>>,
+    answer: Result<Verdict, TrialFault>,
+) -> Result<String, AllocError>
+    ensures { IfOk result (λ s. string_bytes s ≡ verdict_text ends answer) }
+{
+    match answer {
+        Ok(verdict) => {
+            let word = verdict_word(verdict);
+            let ends = told_ends(heap, ends)?;
+            format!(in heap; "verdict {word}{ends}\n")
+        }
+        Err(fault) => trial_refusal(heap, fault),
+    }
+}
+
+// What is printed of a judge over so many states: how many records it filled, a line for each, and its output.
+pub(crate) fn judge_text(
+    heap: Global,
+    states: usize,
+    records: &[Record],
+    scratch: &[u8],
+    out: &[u8],
+    answer: Result<usize, JudgeFault>,
+) -> Result<String, AllocError>
+    ensures { IfOk result (λ s. string_bytes s ≡ judge_text states records.now scratch.now out.now answer) }
+{
+    match answer {
+        Ok(count) => {
+            let filled = &records[..count.min(records.len())];
+            let lines = record_lines(heap, states, filled, scratch)?;
+            let row = row_text(heap, out)?;
+            format!(in heap; "judge {count} records\n{lines}out {row}\n")
+        }
+        Err(fault) => {
+            let line = judge_line(heap, &fault)?;
+            format!(in heap; "{line}\n")
+        }
+    }
+}

@@ -1,0 +1,40 @@
+ghost use Rattle.std.specs.Prelude.{◌≡◌, IfOk, OnOk, string_bytes};
+ghost use Rattle.layers.specs.Holds.{held_model};
+ghost use Rattle.calls_text.specs.Holdings.{hold_text, holds_text, all_held};
+
+use layers::fault::HoldFault;
+use layers::hold::Hold;
+use model::source::Source;
+use printing::words::refusal_line;
+use std::alloc::{AllocError, Global};
+
+// What is printed of holding a state.
+fn hold_text(heap: Global, answer: Result<(), HoldFault>) -> Result<String, AllocError>
+    ensures { IfOk result (λ s. string_bytes s ≡ hold_text answer) }
+{
+    match answer {
+        Ok(()) => String::from_str(heap, "ok\n"),
+        Err(fault) => {
+            let line = refusal_line(heap, &fault)?;
+            format!(in heap; "{line}\n")
+        }
+    }
+}
+
+// Holds states of the layer in turn, and prints what came of each.
+pub fn hold_states<S: Source>(
+    heap: Global,
+    layer: &mut Hold<S>,
+    states: &[usize],
+) -> Result<String, AllocError>
+    ensures text { IfOk result (λ s. string_bytes s ≡ holds_text (S.Source.model layer.old.below).states states.now) }
+    ensures source { layer.new.below ≡ layer.old.below }
+    ensures model { OnOk result (held_model (S.Source.model layer.new.below) layer.new.held ≡ all_held states.now (held_model (S.Source.model layer.old.below) layer.old.held)) }
+{
+    let mut out = String::new(heap);
+    for state in states {
+        let text = hold_text(heap, layer.hold(*state))?;
+        out.push_str(text.as_str())?;
+    }
+    Ok(out)
+}

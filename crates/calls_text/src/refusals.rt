@@ -1,0 +1,51 @@
+ghost use Rattle.std.specs.Prelude.{◌≡◌, IfOk, string_bytes};
+ghost use Rattle.trial.specs.Faults.{fault_number};
+ghost use Rattle.calls_text.specs.Refusals.{trial_words, trial_refusal};
+
+use printing::words::{Refusal, refusal_line};
+use std::alloc::{AllocError, Global};
+use trial::fault::TrialFault;
+
+// A trial's fault, to be told: the fault and the trait are of other crates.
+#[derive(Clone, Copy)]
+struct Told(TrialFault);
+
+impl Refusal for Told {
+    ghost number = { λ f. fault_number f.0 };
+
+    ghost words = { λ f. trial_words f.0 };
+
+    fn number(&self) -> u8 {
+        self.0.number()
+    }
+
+    fn words(&self) -> &'static str {
+        match self.0 {
+            TrialFault::Lengths => {
+                "each list of marks has a mark for each state; write as many digits as there are states"
+            }
+            TrialFault::Marks => {
+                "a mark is 0 or 1; write 1 for a state in the set, and 0 for any other"
+            }
+            TrialFault::NoQuery => {
+                "no query stands; start one first, and again after a judge, which ends it"
+            }
+            TrialFault::Rounds => "a query has at most 100000 rounds; advance it by fewer",
+            TrialFault::State => {
+                "there is no such state; states are numbered from 0 to one below how many there are"
+            }
+            TrialFault::Bound => "a bound is at most 1000000000, which is the whole; lower it",
+            TrialFault::Aim => {
+                "< and <= are decided by a query for the best, > and >= by one for the worst; start the other query, or change the comparison"
+            }
+        }
+    }
+}
+
+// The line of a refused call.
+pub(crate) fn trial_refusal(heap: Global, fault: TrialFault) -> Result<String, AllocError>
+    ensures { IfOk result (λ s. string_bytes s ≡ trial_refusal fault) }
+{
+    let line = refusal_line(heap, &Told(fault))?;
+    format!(in heap; "{line}\n")
+}

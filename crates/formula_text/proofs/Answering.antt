@@ -1,0 +1,61 @@
+-- From what reading a text answers to what is answered of its table.
+use Rattle.std.proofs.Common.{◌≡◌, ℕ, min, List, length, take, drop, Err, refl, ap, ◌∙◌, subst, arith, length-take}
+use Rattle.std.proofs.lemmas.List.{take_all}
+use Rattle.std.proofs.Math.Seq.{take-append_seam}
+use Rattle.model.specs.Mdp.{over}
+use Rattle.records.specs.declared.record.Record.{Record}
+use Rattle.records.specs.declared.fault.FormulaFault.{FormulaFault}
+use Rattle.records.specs.declared.fault.FormulaFault.TheVariants.{NoFormula, Number, Depth, Records, Until}
+use Rattle.records.specs.declared.fault.JudgeFault.{JudgeFault}
+use Rattle.records.specs.declared.fault.JudgeFault.TheVariants.{Length, Formula, Scratch, Out}
+use Rattle.formula.specs.Records.{records}
+use Rattle.formula.specs.Questions.{formula_fault}
+use Rattle.formula.specs.Answers.{Within, Limits, Accepted, Faulty, JudgeAnswer}
+use Rattle.formula.proofs.Forms.{length_records}
+use Rattle.formula_text.specs.Tables.{records_table}
+use Rattle.formula_text.specs.Answers.{Tabled, lent}
+
+-- what is written over the front of a list, as much of it as fits, stands there
+front_over : {X : Type 0} (new xs ys : List X) (n : ℕ) → n ≡ min (length new) (length xs) → ys ≡ over new xs → take n ys ≡ take (length xs) new
+front_over new xs ys n e f =
+    let all : n ≡ length (take (length xs) new) = simp length-take (omega arith) in
+    rw (f, all) (take-append_seam (take (length xs) new) (drop (length new) xs))
+
+-- the records that an accepted text leaves at the front of those lent are those of its formula
+pub tabled : (text bytes : List ℕ) (blank left : List Record) (n : ℕ) → length blank ≡ lent → Limits → Accepted text blank left n → bytes ≡ records_table (take n left) → Tabled text bytes
+tabled text bytes blank left n long limits a e =
+    let f = a.formula in
+    let within : Within (length blank) f = (limits (length blank) f a.spelled).0 a.limits in
+    let room = within.room in
+    let all = length_records f 0 in
+    let few = a.number in
+    let front : take n left ≡ records 0 f =
+    front_over (records 0 f) blank left n (omega arith) a.written ∙ take_all (length blank) (records 0 f) (omega arith) in
+    record {
+      formula = f;
+      spelled = a.spelled;
+      spells = a.spells;
+      within = subst (λ k. Within k f) long within;
+      table = e ∙ ap records_table front;
+    }
+
+-- a fault of a formula is one for any records of that number
+faulty : (text : List ℕ) (blank left other : List Record) (e : FormulaFault) → length other ≡ length blank → Faulty text blank left e → Faulty text other other e
+faulty text blank left other e same f = record {
+  formula = f.formula;
+  spelled = f.spelled;
+  spells = f.spells;
+  refused = ap (λ k. formula_fault k f.formula) same ∙ f.refused;
+  kept = refl;
+}
+
+-- so is any fault of a text that is read
+pub for_any : (text : List ℕ) (blank left other : List Record) (e : JudgeFault) → length other ≡ length blank → JudgeAnswer text blank left (Err e) → JudgeAnswer text other other (Err e)
+for_any text blank left other Length same a = (a.0, refl)
+for_any text blank left other (Formula (NoFormula p)) same a = (a.0, (a.1.0, refl))
+for_any text blank left other (Formula (Number p)) same a = (a.0, faulty text blank left other (Number p) same a.1)
+for_any text blank left other (Formula Depth) same a = (a.0, faulty text blank left other Depth same a.1)
+for_any text blank left other (Formula Records) same a = (a.0, faulty text blank left other Records same a.1)
+for_any text blank left other (Formula (Until p)) same a = (a.0, faulty text blank left other (Until p) same a.1)
+for_any text blank left other Scratch same a = absurd a
+for_any text blank left other Out same a = absurd a

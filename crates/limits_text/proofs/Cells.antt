@@ -1,0 +1,26 @@
+-- What a hole with a width writes is a cell of a table.
+use Rattle.std.proofs.Common.{◌≡◌, ℕ, zero, suc, ◌-◌, ◌^◌, true, false, cond, eqb, List, [], ◌∷◌, replicate, refl, ap, append-nil, codes}
+use Rattle.std.proofs.Math.Nat.{sub-zero, sub_self}
+use Rattle.std.specs.List.{repeat}
+use Rattle.std.specs.Fmt.{format_spec, padded_integral, padded, char_count, take_chars}
+use Rattle.limits_text.specs.Cells.{at_right, at_left}
+use Rattle.limits_text.specs.Tables.{verdict_word}
+
+-- a blank repeated is so many blanks
+blanks : (n : ℕ) → repeat {A = ℕ} n (32 ∷ []) ≡ replicate {A = ℕ} n 32
+blanks zero = refl
+blanks (suc n) = ap (λ t. 32 ∷ t) (blanks n)
+
+-- a number in a hole `{:>w}`
+pub right_written : (w : ℕ) (digits : List ℕ) → padded_integral (format_spec 32 3 0 w (2 ^ 64 - 1)) false [] digits ≡ at_right w digits
+unfolding padded_integral char_count lib.Utf8.encode
+right_written w digits = simp (sub-zero, blanks, sub_self, append-nil)
+
+-- a verdict's word in a hole `{:<9}`
+pub word_written : (b : ℕ) → padded (format_spec 32 1 0 9 (2 ^ 64 - 1)) (verdict_word b) ≡ at_left 9 (verdict_word b)
+unfolding padded char_count take_chars lib.Utf8.encode
+word_written b =
+    elim (eqb b 0) as (λ x. padded (format_spec 32 1 0 9 (2 ^ 64 - 1)) (cond x (codes "no") (cond (eqb b 1) (codes "yes") (codes "undecided"))) ≡ at_left 9 (cond x (codes "no") (cond (eqb b 1) (codes "yes") (codes "undecided")))) [
+      | true ↦ refl
+      | false ↦ elim (eqb b 1) as (λ x. padded (format_spec 32 1 0 9 (2 ^ 64 - 1)) (cond x (codes "yes") (codes "undecided")) ≡ at_left 9 (cond x (codes "yes") (codes "undecided"))) [ true ↦ refl | false ↦ refl ]
+    ]

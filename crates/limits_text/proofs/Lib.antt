@@ -1,0 +1,5 @@
+pub mod Cells
+pub mod Units
+pub mod Printable
+pub mod Outcomes
+pub mod Answering

@@ -1,0 +1,6 @@
+pub mod Lines
+pub mod Cells
+pub mod Tables
+pub mod Outcomes
+pub mod Reports
+pub mod Summaries

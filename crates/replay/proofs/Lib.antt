@@ -1,0 +1,2 @@
+pub mod StandingQuery
+pub mod Playing

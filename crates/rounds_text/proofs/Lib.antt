@@ -1,0 +1,3 @@
+pub mod Joining
+pub mod Passing
+pub mod Printing

@@ -1,0 +1,4 @@
+pub mod Given
+pub mod Numberings
+pub mod Refusals
+pub mod Requests

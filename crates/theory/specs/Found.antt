@@ -1,0 +1,66 @@
+-- Chapter 11. The verdicts that rounds and marks find, a function of the formula, and what they mean for all adversaries.
+use Rattle.std.specs.Prelude.{◌≡◌, ℕ, ◌^◌, ◌<◌, Bool, true, false, Some, None, Option}
+use Rattle.model.specs.Mdp.{Mdp, Lawful}
+use Rattle.theory.specs.Tallies.{tally, next_tally}
+use Rattle.theory.specs.WithoutSteps.{Extremal, over_none, at_most_none, at_least_whole, marked_set}
+use Rattle.theory.specs.Formulas.{Comparison, Formula, truth, label, negation, conjunction, probability, PathFormula, next, until_within, until, extremal, has_label, SetOf, Holds}
+use Rattle.theory.specs.Verdicts.{VerdictSets, known, negated, joined, next_verdicts, until_within_verdicts, SameVerdicts, Judged}
+use Rattle.theory.specs.Distances.{StateValue, WithinUnits, Decided, Undecided}
+
+-- until without steps: what the settled marks find on the sure states of the parts, and on the possible ones
+abbrev pub extremal_verdicts : Extremal → Mdp → VerdictSets → VerdictSets → VerdictSets
+extremal_verdicts over_none m v w = record { sure = marked_set over_none v.sure w.sure m; possible = marked_set over_none v.possible w.possible m }
+extremal_verdicts at_most_none m v w = record { sure = marked_set at_most_none v.possible w.possible m; possible = marked_set at_most_none v.sure w.sure m }
+extremal_verdicts at_least_whole m v w = record { sure = marked_set at_least_whole v.sure w.sure m; possible = marked_set at_least_whole v.possible w.possible m }
+
+-- under any other bound none
+abbrev pub until_verdicts : Option Extremal → Mdp → VerdictSets → VerdictSets → VerdictSets
+until_verdicts None m v w = known (λ s. false)
+until_verdicts (Some o) m v w = extremal_verdicts o m v w
+
+-- part by part
+abbrev mutual
+  pub verdicts : Mdp → Formula → VerdictSets
+  verdicts m truth = known (λ s. true)
+  verdicts m (label i) = known (has_label m i)
+  verdicts m (negation f) = negated (verdicts m f)
+  verdicts m (conjunction f g) = joined (verdicts m f) (verdicts m g)
+  verdicts m (probability c b p) = path_verdicts m c b p
+
+  -- a path formula under its comparison and bound
+  pub path_verdicts : Mdp → Comparison → ℕ → PathFormula → VerdictSets
+  path_verdicts m c b (next f) = next_verdicts c b m (verdicts m f)
+  path_verdicts m c b (until_within k f g) = until_within_verdicts c b k m (verdicts m f) (verdicts m g)
+  path_verdicts m c b (until f g) = until_verdicts (extremal c b) m (verdicts m f) (verdicts m g)
+
+-- what is known of a formula where it is undecided: a next over a decided part has a value within one unit of the bound, an until with k steps over
+-- decided parts one within k units, and an until without steps is undecided only if a part is; other formulas have no bound
+abbrev pub UndecidedNear : Mdp → Formula → ℕ → Type 0
+UndecidedNear m truth s = Unit {0}
+UndecidedNear m (label i) s = Unit {0}
+UndecidedNear m (negation f) s = Unit {0}
+UndecidedNear m (conjunction f g) s = Unit {0}
+UndecidedNear m (probability c b (next f)) s = Decided m (verdicts m f) → (set : ℕ → Bool) → SetOf m (Holds m f) set →
+    (x : ℕ) × StateValue c m (λ σ. next_tally set m σ s) x × WithinUnits 1 b (m.denominator ^ 1) x
+UndecidedNear m (probability c b (until_within k f g)) s = Decided m (verdicts m f) → Decided m (verdicts m g) →
+    (left right : ℕ → Bool) → SetOf m (Holds m f) left → SetOf m (Holds m g) right →
+    (x : ℕ) × StateValue c m (λ σ. tally left right k m σ s) x × WithinUnits k b (m.denominator ^ k) x
+UndecidedNear m (probability c b (until f g)) s = Decided m (verdicts m f) → Decided m (verdicts m g) → ⊥
+
+-- what the verdict on a formula at a state means: a yes holds, a no fails, and an undecided one is near its bound
+pub record VerdictMeans (m : Mdp) (f : Formula) (s : ℕ) : Type 0 where
+  pub yes_holds : (verdicts m f).sure s ≡ true → Holds m f s
+  pub no_fails : (verdicts m f).possible s ≡ false → ¬ (Holds m f s)
+  pub undecided_near : Undecided (verdicts m f) s → UndecidedNear m f s
+
+-- a formula is judged rightly: the verdicts are those that are defined and the only ones, they mean what they say at every state, and
+-- the formula has exactly one set of states, so that none of this is said of nothing
+pub record JudgedRightly (m : Mdp) (f : Formula) : Type 0 where
+  pub defined : Judged m f (verdicts m f)
+  pub only : (u : VerdictSets) → Judged m f u → SameVerdicts m u (verdicts m f)
+  pub meant : (s : ℕ) → s < m.states → VerdictMeans m f s
+  pub one_set : (set : ℕ → Bool) × SetOf m (Holds m f) set × ((other : ℕ → Bool) → SetOf m (Holds m f) other → (s : ℕ) → s < m.states → other s ≡ set s)
+
+-- the theorem of judging: every formula is judged rightly on every lawful model
+abbrev pub AllJudgedRightly : Type 0
+AllJudgedRightly = (m : Mdp) → Lawful m → (f : Formula) → JudgedRightly m f

@@ -1,0 +1,56 @@
+-- The two ends that the verdicts of a formula are read off, at each state.
+use Rattle.std.specs.Prelude.{◌≡◌, ℕ, ◌<◌, cond, List, [], ◌∷◌, Some, None, Option, nat_lt, slice_index_or}
+use Rattle.model.specs.Mdp.{Mdp}
+use Rattle.theory.specs.Ends.{lower, upper, next_lower, next_upper}
+use Rattle.theory.specs.Formulas.{Formula, truth, label, negation, conjunction, probability, next, until_within, until}
+use Rattle.theory.specs.Verdicts.{asked}
+use Rattle.theory.specs.Found.{verdicts}
+use Rattle.rules.specs.declared.part.Part.{Part}
+use Rattle.rules.specs.Parts.{part_of, units_of}
+use Rattle.trial.specs.declared.two_ends.Ends.{Ends}
+
+-- a lower and an upper end at each state
+abbrev pub TwoEnds : Type 0
+TwoEnds = (ℕ → ℕ) × (ℕ → ℕ)
+
+-- the ends that the verdicts of a formula are read off: of a next and of an until with steps, the lower one over the sure states of its parts and
+-- the upper one over the possible ones; other formulas have none
+abbrev pub ends_of : Mdp → Formula → Option TwoEnds
+ends_of m truth = None
+ends_of m (label i) = None
+ends_of m (negation f) = None
+ends_of m (conjunction f g) = None
+ends_of m (probability c b (next f)) = Some (next_lower (asked c) (verdicts m f).sure m, next_upper (asked c) (verdicts m f).possible m)
+ends_of m (probability c b (until_within k f g)) =
+    Some (lower (asked c) (verdicts m f).sure (verdicts m g).sure k m, upper (asked c) (verdicts m f).possible (verdicts m g).possible k m)
+ends_of m (probability c b (until f g)) = None
+
+-- of the last of several formulas
+abbrev pub ends_of_last : Mdp → List Formula → Option TwoEnds
+ends_of_last m [] = None
+ends_of_last m (f ∷ []) = ends_of m f
+ends_of_last m (f ∷ g ∷ fs) = ends_of_last m (g ∷ fs)
+
+-- the ends of n states are these
+pub record EndsAre (n : ℕ) (lo hi : ℕ → ℕ) (e : Ends) : Type 0 where
+  pub so_many : e.states ≡ n
+  pub lower : (d : Part) (s : ℕ) → s < n → units_of (slice_index_or e.lower.values s d) ≡ lo s
+  pub upper : (d : Part) (s : ℕ) → s < n → units_of (slice_index_or e.upper.values s d) ≡ hi s
+
+-- the ends that are told of n states are these, if there are any
+abbrev pub Told : ℕ → Option TwoEnds → Option Ends → Type 0
+Told n None None = Unit {0}
+Told n None (Some e) = ⊥
+Told n (Some x) None = ⊥
+Told n (Some x) (Some e) = EndsAre n x.0 x.1 e
+
+-- two ends agree on n states, or there are none
+abbrev pub EndsAgree : ℕ → Option TwoEnds → Option TwoEnds → Type 0
+EndsAgree n None None = Unit {0}
+EndsAgree n None (Some y) = ⊥
+EndsAgree n (Some x) None = ⊥
+EndsAgree n (Some x) (Some y) = (s : ℕ) → s < n → (x.0 s ≡ y.0 s) × (x.1 s ≡ y.1 s)
+
+-- the two ends at a state, if there is such a state
+abbrev pub ends_at : ℕ → (ℕ → ℕ) → (ℕ → ℕ) → ℕ → Option (Part × Part)
+ends_at n lo hi s = cond (nat_lt s n) (Some (part_of (lo s), part_of (hi s))) None

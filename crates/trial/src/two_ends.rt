@@ -1,0 +1,13 @@
+ghost use Rattle.std.specs.Prelude.{◌≤◌};
+
+use crate::per_state::PerState;
+use rules::part::Part;
+
+// The two ends, at each state, that the verdicts of a formula are read off.
+#[derive(Drop)]
+pub struct Ends {
+    pub(crate) states: usize,
+    pub(crate) lower: PerState<Part>,
+    pub(crate) upper: PerState<Part>,
+    ghost few: { states ≤ 512 },
+}
