@@ -1,18 +1,20 @@
-/* The measure: the same rounds over the same table in plain C. It reads a lawful model text, starts from VALUES, makes COUNT
-   rounds of parts (down or up, the greater or the lesser preferred) and prints both lists as the program does. The rounds are
-   timed without the reading, and the seconds go to standard error. A round has one division a choice. */
+/* The measure: the rounds of a trial over the same table in plain C. It reads a lawful model text, starts both ends of "left until
+   right" from the whole in right and 0 elsewhere, makes COUNT rounds of them, the lower end rounded down and the upper one up, and
+   prints both ends of each state as the program does. Both ends are worked out in one pass over the table, each with one 64-bit
+   division a choice. States in right or outside left are held.
+     kernel MODEL AIM LEFT RIGHT COUNT    AIM is best or worst; LEFT and RIGHT have a digit for each state */
 #include <stdint.h>
 #include <stdio.h>
 #include <stdlib.h>
 #include <string.h>
-#include <time.h>
 
-enum { STATES = 512, CHOICES = 2048, BRANCHES = 4096 };
+enum { STATES = 512, CHOICES = 2048, BRANCHES = 4096, WHOLE = 1000000000 };
 
 static uint32_t states, denominator;
 static uint32_t first_choice[STATES + 1], first_branch[CHOICES + 1];
 static uint32_t target[BRANCHES], weight[BRANCHES];
-static uint32_t values[STATES], spare[STATES];
+static uint32_t lower[STATES], upper[STATES], lower_before[STATES], upper_before[STATES];
+static uint8_t held[STATES];
 
 static void fail(const char *why) {
     fprintf(stderr, "kernel: %s\n", why);
@@ -41,45 +43,44 @@ static void load(const char *path) {
     fclose(file);
 }
 
-static void start(char *list) {
-    uint32_t s = 0;
-    for (char *word = strtok(list, ","); word && s < states; word = strtok(NULL, ",")) values[s++] = (uint32_t)strtoul(word, NULL, 10);
-    if (s != states) fail("not as many values as states");
-}
-
-static void one_round(uint64_t over, int greater) {
-    memcpy(spare, values, states * sizeof *values);
+static void start(const char *left, const char *right) {
+    if (strlen(left) != states || strlen(right) != states) fail("not as many digits as states");
     for (uint32_t s = 0; s < states; s++) {
-        uint64_t best = 0;
-        for (uint32_t c = first_choice[s]; c < first_choice[s + 1]; c++) {
-            uint64_t sum = over;
-            for (uint32_t b = first_branch[c]; b < first_branch[c + 1]; b++) sum += (uint64_t)weight[b] * spare[target[b]];
-            uint64_t mix = sum / denominator;
-            if (c == first_choice[s] || (greater ? mix > best : mix < best)) best = mix;
-        }
-        values[s] = (uint32_t)best;
+        held[s] = right[s] == '1' || left[s] != '1';
+        lower[s] = upper[s] = right[s] == '1' ? WHOLE : 0;
     }
 }
 
-static void print(const char *name, const uint32_t *list) {
-    printf("%s ", name);
-    for (uint32_t s = 0; s < states; s++) printf("%s%u", s ? "," : "", list[s]);
-    printf("\n");
+static void one_round(int greater) {
+    memcpy(lower_before, lower, states * sizeof *lower);
+    memcpy(upper_before, upper, states * sizeof *upper);
+    for (uint32_t s = 0; s < states; s++) {
+        if (held[s]) continue;
+        uint64_t best_lower = 0, best_upper = 0;
+        for (uint32_t c = first_choice[s]; c < first_choice[s + 1]; c++) {
+            uint64_t down = 0, up = denominator - 1;
+            for (uint32_t b = first_branch[c]; b < first_branch[c + 1]; b++) {
+                down += (uint64_t)weight[b] * lower_before[target[b]];
+                up += (uint64_t)weight[b] * upper_before[target[b]];
+            }
+            down /= denominator;
+            up /= denominator;
+            int first = c == first_choice[s];
+            if (first || (greater ? down > best_lower : down < best_lower)) best_lower = down;
+            if (first || (greater ? up > best_upper : up < best_upper)) best_upper = up;
+        }
+        lower[s] = (uint32_t)best_lower;
+        upper[s] = (uint32_t)best_upper;
+    }
 }
 
 int main(int count, char **words) {
-    struct timespec from, to;
-    if (count != 6) fail("write MODEL RULE PREFERENCE COUNT VALUES");
+    if (count != 6) fail("write MODEL AIM LEFT RIGHT COUNT");
     load(words[1]);
-    uint64_t over = strcmp(words[2], "up") == 0 ? denominator - 1 : 0;
-    int greater = strcmp(words[3], "greater") == 0;
-    unsigned long rounds = strtoul(words[4], NULL, 10);
-    start(words[5]);
-    clock_gettime(CLOCK_MONOTONIC, &from);
-    for (unsigned long k = 0; k < rounds; k++) one_round(over, greater);
-    clock_gettime(CLOCK_MONOTONIC, &to);
-    fprintf(stderr, "%.6f\n", (double)(to.tv_sec - from.tv_sec) + (double)(to.tv_nsec - from.tv_nsec) / 1e9);
-    print("first", values);
-    print("second", spare);
+    start(words[3], words[4]);
+    int greater = strcmp(words[2], "best") == 0;
+    unsigned long rounds = strtoul(words[5], NULL, 10);
+    for (unsigned long k = 0; k < rounds; k++) one_round(greater);
+    for (uint32_t s = 0; s < states; s++) printf("ends %u %u after %lu\n", lower[s], upper[s], rounds);
     return 0;
 }

@@ -25,7 +25,8 @@ class Function:
         self.crate = path.relative_to(top).parts[1]
         self.where = f"{path.relative_to(top)}:{line}"
         self.name, self.head, self.body = name, head, body
-        params = re.search(r"\((.*?)\)\s*(?:->|requires|ensures|\{|;|$)", head.split(" requires ")[0].split(" ensures ")[0], re.S)
+        signature = re.split(r" requires | ensures ", head.replace("pub(crate) ", ""))[0]
+        params = re.search(r"\((.*?)\)\s*(?:->|where|$)", signature, re.S)
         listed = params.group(1) if params else ""
         self.params = [p.split(":")[0].replace("mut ", "").strip() for p in re.split(r",(?![^<(\[]*[>)\]])", listed) if ":" in p]
         self.requires = re.findall(r"requires(?: \w+)? \{ (.*?) \}(?= ensures| requires|$)", head)
@@ -106,7 +107,7 @@ for crate in sorted({f.crate for f in plain}):
 show("5a facts that three contracts and more require", repeated)
 show("5b parameters that travel together through three functions and more", together)
 
-show("6 buffers of fixed length, parallel arrays, references to a Vec, a String or an Option of one", matching(r": \[\w+; \w+\]|-> \[\w+; \w+\]|\[[^\]]*; (512|ROOM)\]|&(Vec<|String\b|Option<Vec)|: Vec<"))
+show("6 buffers of fixed length, parallel arrays, references to a Vec, a String or an Option of one", matching(r": \[\w+; \w+\]|-> \[\w+; \w+\]|\[[^\]]*; (512|STATES)\]|&(Vec<|String\b|Option<Vec)|: Vec<"))
 
 switches = []
 for f in plain:

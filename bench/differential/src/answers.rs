@@ -27,17 +27,25 @@ pub struct Expected {
     pub lines: Vec<Line>,
     /// is it a wrong command line, with a sentence on standard error and nothing else?
     pub mistake: bool,
+    /// what is on standard error, unless it is a mistake
+    pub error: Vec<u8>,
     /// what happens in the run, to be counted
     pub kinds: Vec<String>,
 }
 
 impl Expected {
-    fn accepted(lines: Vec<Line>, kind: &str) -> Expected {
-        Expected { status: 0, lines, mistake: false, kinds: vec![kind.to_string()] }
+    pub fn accepted(lines: Vec<Line>, kind: &str) -> Expected {
+        Expected { status: 0, lines, mistake: false, error: Vec::new(), kinds: vec![kind.to_string()] }
     }
 
     fn refused(lines: Vec<Line>, kind: String) -> Expected {
-        Expected { status: 1, lines, mistake: false, kinds: vec![kind] }
+        Expected { status: 1, lines, mistake: false, error: Vec::new(), kinds: vec![kind] }
+    }
+
+    /// What is expected of a wrong command line.
+    pub fn wrong() -> Expected {
+        let kinds = vec!["wrong command line".to_string()];
+        Expected { status: 1, lines: Vec::new(), mistake: true, error: Vec::new(), kinds }
     }
 }
 
@@ -60,10 +68,7 @@ pub fn model_of(source: &Source) -> Result<Model, Expected> {
                 Some([rungs, denominator, weight]) => Model::ladder(*rungs, *denominator, *weight).map_err(|number| {
                     Expected::refused(vec![Line::Begins(format!("refused {}:", number))], format!("refused {}", number))
                 }),
-                _ => {
-                    let kinds = vec!["wrong command line".to_string()];
-                    Err(Expected { status: 1, lines: Vec::new(), mistake: true, kinds })
-                }
+                _ => Err(Expected::wrong()),
             }
         }
     }
@@ -82,8 +87,7 @@ fn refused_text(fault: &Fault, text: &[u8]) -> Vec<Line> {
             let before: usize = line.split(|&byte| byte == b'\t').take(field).map(|field| field.len() + 1).sum();
             before + length
         });
-        let shown = |byte: &u8| if *byte == b'\t' || (b' '..=b'~').contains(byte) { *byte } else { b'?' };
-        lines.push(Line::Whole(line.iter().take(100).map(shown).collect()));
+        lines.push(Line::Whole(shown(&line[..line.len().min(100)])));
         let mut caret: Vec<u8> = line[..place].iter().map(|&byte| if byte == b'\t' { byte } else { b' ' }).collect();
         caret.push(b'^');
         lines.push(Line::Whole(caret));
@@ -91,7 +95,13 @@ fn refused_text(fault: &Fault, text: &[u8]) -> Vec<Line> {
     lines
 }
 
-fn whole(line: String) -> Line {
+/// The bytes as they are shown: `?` for each that is neither a tab nor printable ASCII.
+pub fn shown(bytes: &[u8]) -> Vec<u8> {
+    let one = |byte: &u8| if *byte == b'\t' || (b' '..=b'~').contains(byte) { *byte } else { b'?' };
+    bytes.iter().map(one).collect()
+}
+
+pub fn whole(line: String) -> Line {
     Line::Whole(line.into_bytes())
 }
 
@@ -171,7 +181,7 @@ pub fn play_trial(source: &Source, calls: &[Call]) -> Expected {
         Ok(model) => Trial::new(model),
         Err(expected) => return head_only(expected),
     };
-    let mut expected = Expected { status: 0, lines: Vec::new(), mistake: false, kinds: Vec::new() };
+    let mut expected = Expected { status: 0, lines: Vec::new(), mistake: false, error: Vec::new(), kinds: Vec::new() };
     for call in calls {
         let answer = trial.call(call);
         expected.kinds.push(format!("{} {}", call_word(call), answer_kind(&answer)));
@@ -201,7 +211,7 @@ fn answer_kind(answer: &Answer) -> String {
     }
 }
 
-fn verdict_word(verdict: u8) -> &'static str {
+pub fn verdict_word(verdict: u8) -> &'static str {
     match verdict {
         NO => "no",
         YES => "yes",
@@ -273,8 +283,12 @@ pub fn difference(expected: &Expected, status: Option<i32>, out: &[u8], error: &
     if status != Some(expected.status) {
         return Some(format!("the exit status is {:?}, not {}", status, expected.status));
     }
-    if error.is_empty() == expected.mistake {
-        return Some(if expected.mistake { "nothing is on standard error" } else { "something is on standard error" }.to_string());
+    if expected.mistake && error.is_empty() {
+        return Some("nothing is on standard error".to_string());
+    }
+    if !expected.mistake && error != expected.error {
+        let texts = [error, &expected.error].map(|text| String::from_utf8_lossy(text).into_owned());
+        return Some(format!("standard error is {:?} and not {:?}", texts[0], texts[1]));
     }
     let mut printed: Vec<&[u8]> = out.split(|&byte| byte == b'\n').collect();
     if printed.pop() != Some(&[]) {

@@ -3,6 +3,8 @@
 use crate::answers::{self, Expected, Source};
 use crate::formulas;
 use crate::judge::Sizes;
+use crate::limits;
+use crate::lists;
 use crate::model::{Model, WHOLE};
 use crate::models::{self, Size};
 use crate::random::Random;
@@ -10,15 +12,15 @@ use crate::rounds::Rule;
 use crate::trial::{Call, Trial};
 
 /// The commands that can be compared.
-pub const COMMANDS: [&str; 5] = ["show", "write", "formula", "rounds", "trial"];
+pub const COMMANDS: [&str; 6] = ["show", "write", "formula", "rounds", "trial", "check"];
 
 pub struct Case {
     pub command: &'static str,
     pub model: Option<Source>,
     /// the words behind the model
     pub words: Vec<Vec<u8>>,
-    /// the text of the file of calls
-    pub calls: Option<Vec<u8>>,
+    /// a file that is named last, and its text
+    pub file: Option<(&'static str, Vec<u8>)>,
     pub expected: Expected,
 }
 
@@ -28,14 +30,15 @@ pub fn case(random: &mut Random, command: &'static str) -> Case {
         "show" | "write" => text_case(random, command),
         "formula" => formula_case(random),
         "rounds" => rounds_case(random),
-        _ => trial_case(random),
+        "trial" => trial_case(random),
+        _ => check_case(random),
     }
 }
 
 fn text_case(random: &mut Random, command: &'static str) -> Case {
     let source = any_source(random);
     let expected = if command == "show" { answers::show(&source) } else { answers::write(&source) };
-    Case { command, model: Some(source), words: Vec::new(), calls: None, expected }
+    Case { command, model: Some(source), words: Vec::new(), file: None, expected }
 }
 
 /// A lawful text, a damaged one, or a ladder.
@@ -54,6 +57,16 @@ fn any_source(random: &mut Random) -> Source {
 fn some_model(random: &mut Random, weights: &[usize]) -> Model {
     let size = [Size::Tiny, Size::Small, Size::Middle, Size::Large][random.weighted(weights)];
     models::model(random, size)
+}
+
+/// A model on which values are rounded: a unit is no whole number of its parts.
+fn rounding_model(random: &mut Random) -> Model {
+    loop {
+        let model = some_model(random, &[45, 43, 10, 2]);
+        if WHOLE % model.denominator != 0 {
+            return model;
+        }
+    }
 }
 
 /// The word of a ladder, so many times out of a hundred one that is refused or none.
@@ -77,6 +90,10 @@ fn lawful_source(random: &mut Random, weights: &[usize]) -> (Source, Option<Mode
             Source::Text(models::damaged(random, text))
         }
     };
+    with_model(source)
+}
+
+fn with_model(source: Source) -> (Source, Option<Model>) {
     let model = answers::model_of(&source).ok();
     (source, model)
 }
@@ -86,7 +103,7 @@ fn formula_case(random: &mut Random) -> Case {
     let parts = 1 + random.below(parts);
     let lawful = if random.percent(12) { formulas::limit_formula(random) } else { formulas::formula(random, None, parts) };
     let text = if random.percent(55) { formulas::damaged(random, &lawful) } else { lawful.into_bytes() };
-    Case { command: "formula", model: None, expected: answers::formula(&text), words: vec![text], calls: None }
+    Case { command: "formula", model: None, expected: answers::formula(&text), words: vec![text], file: None }
 }
 
 fn rounds_case(random: &mut Random) -> Case {
@@ -108,7 +125,7 @@ fn rounds_case(random: &mut Random) -> Case {
     let rule = ["down", "up", "marks"][rule as usize];
     let words = [rule, if greater { "greater" } else { "lesser" }, &count.to_string(), &list];
     let words = words.iter().map(|word| word.as_bytes().to_vec()).collect();
-    Case { command: "rounds", model: Some(source), words, calls: None, expected }
+    Case { command: "rounds", model: Some(source), words, file: None, expected }
 }
 
 /// Starting values; now and then too few, too many, or one above the whole.
@@ -135,7 +152,23 @@ fn trial_case(random: &mut Random) -> Case {
     };
     let expected = answers::play_trial(&source, &calls);
     let text = calls.iter().flat_map(call_text).collect();
-    Case { command: "trial", model: Some(source), words: Vec::new(), calls: Some(text), expected }
+    Case { command: "trial", model: Some(source), words: Vec::new(), file: Some(("calls", text)), expected }
+}
+
+/// A list of limits on a model; now and then there is no list at the path.
+fn check_case(random: &mut Random) -> Case {
+    let (source, model) = match random.weighted(&[50, 42, 8]) {
+        0 => with_model(Source::Text(rounding_model(random).text())),
+        1 => lawful_source(random, &[45, 43, 10, 2]),
+        _ => with_model(any_source(random)),
+    };
+    let list = lists::list(random, model.as_ref());
+    if model.is_some() && random.percent(1) {
+        let words = vec![b"nowhere.limits".to_vec()];
+        return Case { command: "check", model: Some(source), words, file: None, expected: answers::Expected::wrong() };
+    }
+    let expected = limits::check(&source, &list);
+    Case { command: "check", model: Some(source), words: Vec::new(), file: Some(("limits", list)), expected }
 }
 
 /// Random calls on a trial over the model; they are played along, so that bounds come near the ends.

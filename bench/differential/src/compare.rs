@@ -69,9 +69,9 @@ impl Driver {
             None => {}
         }
         words.extend(case.words.iter().cloned());
-        if let Some(calls) = &case.calls {
-            fs::write(self.folder.join("calls"), calls)?;
-            words.push(b"calls".to_vec());
+        if let Some((name, text)) = &case.file {
+            fs::write(self.folder.join(name), text)?;
+            words.push(name.as_bytes().to_vec());
         }
         self.run(&words)
     }
@@ -108,9 +108,9 @@ impl Driver {
         for word in &case.words {
             line += &format!(" '{}'", String::from_utf8_lossy(word));
         }
-        if let Some(calls) = &case.calls {
-            fs::write(kept.join("calls"), calls)?;
-            line += " calls";
+        if let Some((name, text)) = &case.file {
+            fs::write(kept.join(name), text)?;
+            line += &format!(" {}", name);
         }
         let expected: Vec<String> = case.expected.lines.iter().map(|line| line.text()).collect();
         fs::write(kept.join("expected"), expected.join("\n") + "\n")?;

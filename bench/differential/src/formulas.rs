@@ -63,6 +63,21 @@ fn bounded(random: &mut Random, model: Option<&Model>, path: &str) -> String {
     format!("P{}{}[{}]", comparison, bound, path)
 }
 
+/// A next or an until with steps of which the bound is between or beside the ends of some state, often with more around it.
+pub fn close(random: &mut Random, model: &Model) -> String {
+    let (left, right) = (leaf(random), leaf(random));
+    let path = if random.percent(20) { format!("X{}", right) } else { format!("{}U<={}{}", left, steps(random, Some(model)), right) };
+    let comparison = random.pick(&["<", "<=", ">", ">="]);
+    let inner = format!("P{}{}[{}]", comparison, near(random, model, comparison, &path), path);
+    match random.below(9) {
+        0 => format!("!{}", inner),
+        1 => format!("({}&{})", leaf(random), inner),
+        2 => bounded(random, Some(model), &format!("X{}", inner)),
+        3 => format!("P{}[{}U{}]", random.pick(&[">0", "<=0", ">=1000000000"]), leaf(random), inner),
+        _ => inner,
+    }
+}
+
 /// A bound: the whole, nothing, simple parts of the whole, now and then more than the whole.
 fn some_bound(random: &mut Random) -> u64 {
     match random.below(8) {

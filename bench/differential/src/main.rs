@@ -11,6 +11,8 @@ mod exact;
 mod formula;
 mod formulas;
 mod judge;
+mod limits;
+mod lists;
 mod load;
 mod model;
 mod models;

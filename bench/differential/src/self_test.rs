@@ -6,6 +6,7 @@ use crate::exact;
 use crate::formula::{read, recognise, Record};
 use crate::formulas;
 use crate::judge::{judge, until_end, Sizes, NO, UNDECIDED, YES};
+use crate::limits;
 use crate::load::load;
 use crate::model::{Model, State, WHOLE};
 use crate::models::{self, Size};
@@ -33,7 +34,7 @@ impl Checks {
 
 /// Runs all tests, prints a line for each, and answers whether all passed.
 pub fn run() -> bool {
-    let tests: [(&str, fn(&mut Checks)); 12] = [
+    let tests: [(&str, fn(&mut Checks)); 13] = [
         ("texts of models and their faults", model_examples),
         ("texts at the limits", model_limits),
         ("a text is accepted exactly if it is the text of its model", model_texts),
@@ -45,6 +46,7 @@ pub fn run() -> bool {
         ("untils without steps, against marks and lists of adversaries", untils_of_adversaries),
         ("verdicts, against the sets of states where formulas hold", verdicts_of_formulas),
         ("calls on trials", trial_examples),
+        ("lists of limits", list_examples),
         ("cases of every kind arise", kinds_of_cases),
     ];
     let mut passed = true;
@@ -559,6 +561,39 @@ fn parsed(text: &str) -> Call {
     }
 }
 
+/// Lists of limits on a model of two states, of which state 0 goes to state 1 with a third, or stays: the text, what is printed, and
+/// what is on standard error.
+const LIST_EXAMPLES: [(&str, &str, &str); 5] = [
+    ("", "summary/      0  formulas/      0  hold at every state/      0  fail somewhere/      0  undecided somewhere and fail nowhere/      \
+         0  refused/", ""),
+    ("#a\tb\r/#/true", "#a\tb?/#/true/  state  verdict/      0  yes/      1  yes/  yes 2, no 0, undecided 0//summary/      1  formulas/      \
+         1  hold at every state/      0  fail somewhere/      0  undecided somewhere and fail nowhere/      0  refused/", ""),
+    ("P>=333333334[Xa]/", "P>=333333334[Xa]/  state  verdict         lower       upper/      0  undecided   333333333   333333334/      \
+         1  yes        1000000000  1000000000/  yes 1, no 0, undecided 1//summary/      1  formulas/      0  hold at every state/      \
+         0  fail somewhere/      1  undecided somewhere and fail nowhere/      0  refused/", ""),
+    ("a //P>0[aU<=10001b]", "line 1: refused 21 place 1: ../a / ^//line 3: refused 22 place 8: ../P>0[aU<=10001b]/        ^//summary/      \
+         2  formulas/      0  hold at every state/      0  fail somewhere/      0  undecided somewhere and fail nowhere/      2  refused/",
+        "kavzhubo: formula 1 of 2/kavzhubo: formula 2 of 2/"),
+    ("!a\r/a", "line 1: refused 21 place 2: ../!a?/  ^//a/  state  verdict/      0  no/      1  yes/  yes 1, no 1, undecided 0//summary/      \
+         2  formulas/      0  hold at every state/      1  fail somewhere/      0  undecided somewhere and fail nowhere/      1  refused/",
+        "kavzhubo: formula 1 of 2/kavzhubo: formula 2 of 2/"),
+];
+
+fn list_examples(checks: &mut Checks) {
+    let model = Source::Text(spelled("mdp 2 3 / s - / c / b 0 2 / b 1 1 / s a / c / b 1 3 / end/"));
+    for (list, wanted, error) in LIST_EXAMPLES {
+        let expected = limits::check(&model, list.replace('/', "\n").as_bytes());
+        let words = |line: String| match line.split_once(": no formula").or(line.split_once(": this number")) {
+            Some((head, _)) => format!("{}: ..", head),
+            None => line,
+        };
+        let told: String = expected.lines.iter().map(|line| words(line.text()) + "/").collect();
+        let progress = String::from_utf8_lossy(&expected.error).replace('\n', "/");
+        checks.check(told == wanted && progress == error, || format!("{} and {}, not {} and {}", told, progress, wanted, error));
+        checks.check(expected.status == i32::from(wanted.contains("line 1")), || format!("{} has the status {}", list, expected.status));
+    }
+}
+
 fn kinds_of_cases(checks: &mut Checks) {
     let mut kinds: BTreeMap<String, u64> = BTreeMap::new();
     for command in COMMANDS {
@@ -583,6 +618,14 @@ fn kinds_of_cases(checks: &mut Checks) {
     wanted.extend(refused("trial ends", vec![32, 34]));
     wanted.extend(refused("trial verdict", vec![32, 34, 35, 36]));
     wanted.extend(refused("trial judge", (20..=27).collect()));
+    wanted.extend(refused("check formula", (20..=25).collect()));
+    let formulas = ["holds", "fails", "fails, some undecided", "undecided"].into_iter().flat_map(|word| {
+        [format!("check formula {}", word), format!("check formula {}, with ends", word)]
+    });
+    wanted.extend(formulas);
+    wanted.extend(["heading", "heading with odd bytes", "heading of more than 1024 bytes"].map(|kind| format!("check {}", kind)));
+    wanted.extend(["", " empty", " without a formula", " without a last LF"].map(|kind| format!("check list{}", kind)));
+    wanted.push("check wrong command line".to_string());
     let verdicts = ["yes", "no", "undecided"].map(|word| format!("trial verdict {}", word));
     wanted.extend(verdicts);
     wanted.extend(["show accepted", "write accepted", "formula accepted", "trial judge accepted", "trial judge accepted, some undecided"].map(String::from));

@@ -1,8 +1,8 @@
 // The cases of texts of calls: each line of the input has a case's name, the name of a model and an escaped text of calls,
 // which is read and played on a trial of the model; what came of it is printed. The expected output was worked out from the
 // definitions by a program in another language.
-// It may use the crates model, theory, rules, layers, text, tables, grammar, records, formula, trial, replay, printing, formula_text,
-// calls_text and escapes.
+// It may use the crates model, theory, rules, rounds, ladder, layers, text, tables, grammar, records, formula, trial, replay, printing,
+// formula_text, calls_text, pairs and escapes.
 #![tactic(auto)]
 
 use calls_text::hold::hold_states;
@@ -11,18 +11,12 @@ use calls_text::read::read_calls;
 use calls_text::script::Script;
 use escapes::expand;
 use layers::hold::Hold;
+use pairs::models::{RETRY, THIRDS};
 use replay::replay::replay;
 use std::alloc::{AllocError, Global};
 use std::io;
 use std::io::{BufRead, BufReader};
 use tables::tables::Tables;
-
-// State 0 tries again with 1 part out of 4 or goes to 1, or it takes 1 or 2 alike; 1 and 2 stay.
-const RETRY: &[u8] =
-    b"mdp\t3\t4\ns\t-\nc\nb\t0\t1\nb\t1\t3\nc\nb\t1\t2\nb\t2\t2\ns\ta\nc\nb\t1\t4\ns\tb\nc\nb\t2\t4\nend\n";
-
-// State 0 waits with 2 parts out of 3 and else goes to 1, which stays.
-const THIRDS: &[u8] = b"mdp\t2\t3\ns\t-\nc\nb\t0\t2\nb\t1\t1\ns\ta\nc\nb\t1\t3\nend\n";
 
 // The text of a model of this name.
 fn model_text(name: &str) -> &'static [u8] {

@@ -18,7 +18,8 @@ use Rattle.calls_text.specs.Words.{text_lines}
 use Rattle.calls_text.specs.Requests.{Asked, given, start, advance, ends, verdict, judge, hold, play}
 use Rattle.calls_text.specs.VerdictEnds.{ReplaysReadOff}
 use Rattle.calls_text.proofs.VerdictEnds.{verdicts_read_off}
-use Rattle.calls_text.specs.Texts.{is_call, line_asks, and_then, lines_ask, held_state, played_calls, contents_asked, contents, text_read, begun, Adds}
+use Rattle.calls_text.specs.Texts.{is_call, line_asks, and_then, lines_ask, held_state, played_calls, contents_asked, contents, text_read}
+use Rattle.calls_text.specs.Readings.{begun, Adds}
 
 -- what was asked for before stands before
 abbrev pub joined : List Asked → Result (List Asked) Mistake → Result (List Asked) Mistake

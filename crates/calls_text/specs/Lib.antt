@@ -1,6 +1,7 @@
 pub mod Words
 pub mod Requests
 pub mod Texts
+pub mod Readings
 pub mod Refusals
 pub mod RecordTexts
 pub mod AnswerTexts

@@ -1,5 +1,5 @@
 -- What a text of calls asks for, or its first mistake.
-use Rattle.std.specs.Prelude.{◌≡◌, ℕ, ◌+◌, Bool, false, true, cond, not, ◌&&◌, ◌||◌, List, [], ◌∷◌, ◌++◌, length, map, Ok, Err, Result, ◌==◌}
+use Rattle.std.specs.Prelude.{ℕ, ◌+◌, Bool, false, true, cond, not, ◌&&◌, ◌||◌, List, [], ◌∷◌, ◌++◌, map, Ok, Err, Result}
 use Rattle.std.specs.Result.{result_map_both}
 use Rattle.std.specs.List.{list_any, flat_map}
 use Rattle.calls_text.specs.declared.mistake.Wrong.{Wrong}
@@ -67,22 +67,3 @@ contents s = record { holds = s.holds.items; calls = map given s.calls.items }
 -- the contents of what was read
 abbrev pub contents_read : Result Script Mistake → Result Contents Mistake
 contents_read r = result_map_both contents (λ m. m) r
-
--- have calls begun?
-abbrev pub begun : Script → Bool
-begun s = not (length s.calls.items == 0)
-
--- what was asked for is added to a script
-pub record Adds (before after : Script) (asks : List Asked) : Type 0 where
-  pub holds : after.holds.items ≡ before.holds.items ++ flat_map held_state asks
-  pub calls : map given after.calls.items ≡ map given before.calls.items ++ flat_map played_calls asks
-
--- what adding a request to a script answers and leaves
-abbrev pub AskedAdded : Asked → Script → Script → Result (Unit {0}) Wrong → Type 0
-AskedAdded a before after (Ok _) = (in_time (begun before) (Ok a) ≡ Ok (a ∷ [])) × Adds before after (a ∷ [])
-AskedAdded a before after (Err w) = in_time (begun before) (Ok a) ≡ Err w
-
--- what adding a line to a script answers and leaves
-abbrev pub LineAdded : ℕ → List ℕ → Script → Script → Result (Unit {0}) Wrong → Type 0
-LineAdded n line before after (Ok _) = (asks : List Asked) × (line_asks n (begun before) line ≡ Ok asks) × Adds before after asks
-LineAdded n line before after (Err w) = line_asks n (begun before) line ≡ Err w

@@ -1,13 +1,14 @@
-ghost use Rattle.std.specs.Prelude.{◌≡◌, IfOk, string_bytes, vec_items};
+ghost use Rattle.std.specs.Prelude.{◌≡◌, Some, IfOk, string_bytes, vec_items};
 ghost use Rattle.calls_text.specs.AnswerTexts.{done_text, pair_text, ends_text, verdict_word, told_ends, verdict_text, judge_text};
 
-use crate::record_text::{record_lines, row_text};
+use crate::record_text::{Row, record_lines};
 use crate::refusals::trial_refusal;
 use formula_text::words::judge_line;
 use records::fault::JudgeFault;
 use records::record::Record;
 use rules::part::Part;
 use std::alloc::{AllocError, Global};
+use std::fmt;
 use trial::fault::TrialFault;
 use trial::verdict::Verdict;
 
@@ -22,13 +23,18 @@ pub(crate) fn done_text(heap: Global, answer: Result<(), TrialFault>) -> Result<
 }
 
 // A lower and an upper end, and after how many rounds.
-fn pair_text(heap: Global, ends: (Part, Part, u64)) -> Result<String, AllocError>
-    ensures { IfOk result (λ s. string_bytes s ≡ pair_text ends) }
-{
-    let (lower, upper, rounds) = ends;
-    let lower = lower.units();
-    let upper = upper.units();
-    format!(in heap; " {lower} {upper} after {rounds}")
+#[derive(Clone, Copy)]
+struct Pair((Part, Part, u64));
+
+impl fmt::Display for Pair {
+    ghost output = { λ p. Some (pair_text p.0) };
+
+    fn fmt<W: fmt::Write>(&self, f: &mut fmt::Formatter<W>) -> fmt::Result {
+        let (lower, upper, rounds) = self.0;
+        let lower = lower.units();
+        let upper = upper.units();
+        write!(f, " {lower} {upper} after {rounds}")
+    }
 }
 
 // What is printed of the ends.
@@ -40,7 +46,7 @@ pub(crate) fn ends_text(
 {
     match answer {
         Ok(ends) => {
-            let pair = pair_text(heap, ends)?;
+            let pair = Pair(ends);
             format!(in heap; "ends{pair}\n")
         }
         Err(fault) => trial_refusal(heap, fault),
@@ -59,15 +65,20 @@ fn verdict_word(verdict: Verdict) -> &'static str
 }
 
 // The ends that stand behind a verdict, if they were answered.
-fn told_ends(
-    heap: Global,
-    ends: Option<Result<(Part, Part, u64), TrialFault>>,
-) -> Result<String, AllocError>
-    ensures { IfOk result (λ s. string_bytes s ≡ told_ends ends) }
-{
-    match ends {
-        Some(Ok(ends)) => pair_text(heap, ends),
-        _ => Ok(String::new(heap)),
+#[derive(Clone, Copy)]
+struct ToldEnds(Option<Result<(Part, Part, u64), TrialFault>>);
+
+impl fmt::Display for ToldEnds {
+    ghost output = { λ t. Some (told_ends t.0) };
+
+    fn fmt<W: fmt::Write>(&self, f: &mut fmt::Formatter<W>) -> fmt::Result {
+        match self.0 {
+            Some(Ok(ends)) => {
+                let pair = Pair(ends);
+                write!(f, "{pair}")
+            }
+            _ => Ok(()),
+        }
     }
 }
 
@@ -82,7 +93,7 @@ pub(crate) fn verdict_text(
     match answer {
         Ok(verdict) => {
             let word = verdict_word(verdict);
-            let ends = told_ends(heap, ends)?;
+            let ends = ToldEnds(ends);
             format!(in heap; "verdict {word}{ends}\n")
         }
         Err(fault) => trial_refusal(heap, fault),
@@ -104,7 +115,7 @@ pub(crate) fn judge_text(
         Ok(count) => {
             let filled = &records[..count.min(records.len())];
             let lines = record_lines(heap, states, filled, scratch)?;
-            let row = row_text(heap, out)?;
+            let row = Row(out);
             format!(in heap; "judge {count} records\n{lines}out {row}\n")
         }
         Err(fault) => {

@@ -38,7 +38,8 @@ impl LineKind {
     }
 }
 
-// The kind of a line that begins with this word.
+// The kind of a line that begins with this word. Words are read by functions in this crate: comparisons and aims are of other
+// crates, and no impl for them can stand here; for all alike the caller tells what is wrong where a word says nothing.
 pub(crate) fn kind_of(word: &[u8]) -> Option<LineKind>
     ensures { result ≡ kind_of word.now }
 {

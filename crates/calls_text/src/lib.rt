@@ -5,6 +5,7 @@
 mod answer_text;
 pub mod hold;
 pub mod kind;
+mod line;
 mod marks;
 pub mod mistake;
 pub mod print;

@@ -2,6 +2,7 @@ ghost use Rattle.std.specs.Prelude.{◌≡◌, ◌≤◌, IfOk};
 ghost use Rattle.calls_text.specs.Texts.{contents_read, text_read};
 ghost use Rattle.calls_text.specs.VerdictEnds.{ReplaysReadOff};
 
+use crate::line::Line;
 use crate::mistake::Mistake;
 use crate::script::Script;
 use model::source::Source;
@@ -18,8 +19,13 @@ fn read_lines(
     ensures verdicts { IfOk result (λ r. IfOk r ReplaysReadOff) }
 {
     let mut script = Script::new(heap);
-    for (index, line) in text.split(|byte| *byte == b'\n').enumerate() {
-        if let Err(wrong) = script.add_line(heap, states, line)? {
+    for (index, bytes) in text.split(|byte| *byte == b'\n').enumerate() {
+        let line = Line {
+            heap,
+            states,
+            bytes,
+        };
+        if let Err(wrong) = script.add_line(&line)? {
             return Ok(Err(Mistake {
                 line: index + 1,
                 wrong,

@@ -15,6 +15,7 @@ impl Refusal for Told {
 
     ghost words = { λ f. trial_words f.0 };
 
+    // The number of the fault within, which its own crate gives.
     fn number(&self) -> u8 {
         self.0.number()
     }

@@ -1,22 +1,28 @@
-ghost use Rattle.std.specs.Prelude.{◌≡◌, ◌≤◌, [], ◌∷◌, IfOk, OnOk};
-ghost use Rattle.calls_text.specs.Requests.{asked, play, given};
-ghost use Rattle.calls_text.specs.Texts.{Adds, AskedAdded, LineAdded};
+ghost use Rattle.std.specs.Prelude.{◌≡◌, true};
+ghost use Rattle.std.specs.List.{list_all};
+ghost use Rattle.calls_text.specs.Requests.{unplayed};
 
+use crate::line::Line;
 use crate::mistake::Wrong;
-use crate::request::{Request, read_request};
+use crate::request::Request;
 use crate::words::is_passed_over;
 use replay::call::Call;
 use std::alloc::{AllocError, Global};
 
 // What a text of calls asks for: the states to be held, and then the calls to be played. Just before each verdict stand the
-// ends at its state, which it is read off.
+// ends at its state, which it is read off. No call has an answer yet.
 #[derive(Drop)]
 pub struct Script {
     pub holds: Vec<usize>,
     pub calls: Vec<Call>,
+    ghost none_played: { list_all unplayed calls.items ≡ true },
 }
 
 impl Script {
+    ghost use Rattle.std.specs.Prelude.{[], ◌∷◌, IfOk, OnOk};
+    ghost use Rattle.calls_text.specs.Requests.{asked, play, given, unanswered};
+    ghost use Rattle.calls_text.specs.Readings.{Adds, AskedAdded, LineAdded};
+
     // A script that asks for nothing.
     pub(crate) fn new(heap: Global) -> Script
         ensures holds { result.holds.items ≡ [] }
@@ -30,6 +36,7 @@ impl Script {
 
     // Adds a call, and before a verdict the ends.
     fn add_call(&mut self, call: Call) -> Result<(), AllocError>
+        requires { unplayed call ≡ true }
         ensures { OnOk result (Adds self.old self.new (play (given call) ∷ [])) }
     {
         if let Call::Verdict { state, .. } = call {
@@ -44,6 +51,7 @@ impl Script {
 
     // Adds what a line asks for, unless it holds a state after a call.
     fn add(&mut self, request: Request) -> Result<Result<(), Wrong>, AllocError>
+        requires { unanswered request ≡ true }
         ensures { IfOk result (AskedAdded (asked request) self.old self.new) }
     {
         match request {
@@ -58,20 +66,14 @@ impl Script {
         Ok(Ok(()))
     }
 
-    // Adds what a line asks for over so many states, or tells what is wrong with it.
-    pub(crate) fn add_line(
-        &mut self,
-        heap: Global,
-        states: usize,
-        line: &[u8],
-    ) -> Result<Result<(), Wrong>, AllocError>
-        requires { states ≤ 512 }
-        ensures { IfOk result (LineAdded states line.now self.old self.new) }
+    // Adds what a line asks for, or tells what is wrong with it.
+    pub(crate) fn add_line(&mut self, line: &Line) -> Result<Result<(), Wrong>, AllocError>
+        ensures { IfOk result (LineAdded line.now.states line.now.bytes.now self.old self.new) }
     {
-        if is_passed_over(line) {
+        if is_passed_over(line.bytes) {
             return Ok(Ok(()));
         }
-        match read_request(heap, states, line)? {
+        match line.request()? {
             Ok(request) => self.add(request),
             Err(wrong) => Ok(Err(wrong)),
         }

@@ -26,7 +26,7 @@ pub(crate) fn sign(comparison: Comparison) -> &'static str
     }
 }
 
-// The comparison that a word writes, if it does.
+// The comparison that a word writes, if it does. It and an aim are of other crates, so no impl for them can stand here.
 pub(crate) fn comparison_of(word: &[u8]) -> Option<Comparison>
     ensures { result ≡ comparison_of word.now }
 {

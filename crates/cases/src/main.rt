@@ -1,11 +1,12 @@
 // The cases of the model text: each line of the input has a name and a text, which is loaded into one table; what came
 // of it is printed. The expected output was worked out from the rules of the format without any of this code.
-// It may use the crates model, text, tables and escapes.
+// It may use the crates model, text, tables, ladder, layers, printing and escapes.
 #![tactic(auto)]
 
 mod report;
 
 use escapes::expand;
+use printing::listing::totals;
 use report::{counts, refused, writes};
 use std::io;
 use std::io::{BufRead, BufReader};
@@ -21,7 +22,11 @@ fn tried(
 ) -> io::Result<Vec<u8>> {
     let heap = rt.alloc();
     let (found, held, same) = match tables.load(text.as_slice()) {
-        Ok(()) => (counts(heap, tables)?, text, "the same"),
+        Ok(()) => (
+            counts(heap, totals(&*tables, text.len()))?,
+            text,
+            "the same",
+        ),
         Err(fault) => (refused(heap, fault)?, kept, "as before"),
     };
     let bytes = held.len();

@@ -1,25 +1,17 @@
-use model::source::Source;
+use printing::totals::Totals;
 use std::alloc::{AllocError, Global};
 use tables::tables::Tables;
 use text::fault::{FieldPlace, FileFault};
 
-// How many branches all choices of a state have.
-fn branches(source: &Tables, state: usize) -> usize {
-    (0..source.choices(state))
-        .map(|choice| source.branches(state, choice))
-        .fold(0, usize::saturating_add)
-}
-
-// What a source tells of its sizes.
-pub(crate) fn counts(heap: Global, source: &Tables) -> Result<String, AllocError> {
-    let states = source.states();
-    let denominator = source.denominator();
-    let choices = (0..states)
-        .map(|state| source.choices(state))
-        .fold(0, usize::saturating_add);
-    let branches = (0..states)
-        .map(|state| branches(source, state))
-        .fold(0, usize::saturating_add);
+// The totals of a source, in one line.
+pub(crate) fn counts(heap: Global, totals: Totals) -> Result<String, AllocError> {
+    let Totals {
+        states,
+        denominator,
+        choices,
+        branches,
+        ..
+    } = totals;
     format!(in heap;
         "ok states {states} denominator {denominator} choices {choices} branches {branches}"
     )

@@ -17,11 +17,11 @@ use Rattle.console.specs.declared.command.Verb.TheVariants as verb
 use Rattle.console.specs.declared.command.ModelName.{ModelName}
 use Rattle.console.specs.declared.command.ModelName.TheVariants.{File, Ladder}
 use Rattle.console.specs.declared.command.Mistake.{Mistake}
-use Rattle.console.specs.declared.command.Mistake.TheVariants.{NoCommand, NoSuchCommand, NoModel, NoFormula, NoCalls, TooMany, NoLadder}
+use Rattle.console.specs.declared.command.Mistake.TheVariants.{NoCommand, NoSuchCommand, NoModel, NoFormula, NoCalls, NoLimits, TooMany, NoLadder}
 use Rattle.console.specs.declared.command.Mistake.TheVariants as mistake
 use Rattle.console.specs.declared.command.RoundsMistake.TheVariants.{TooFew, NoRule, NoPreference, NoCount}
 use Rattle.console.specs.declared.command.Command.{Command}
-use Rattle.console.specs.declared.command.Command.TheVariants.{Help, Print, Rounds, Formula, Trial}
+use Rattle.console.specs.declared.command.Command.TheVariants.{Help, Print, Rounds, Formula, Trial, Check}
 
 -- the command that a word spells: `show` prints a listing, and `write` the model text
 abbrev pub verb_of : List ℕ → Option Verb
@@ -30,7 +30,8 @@ verb_of w =
     (cond (bytes_eq w (codes "write")) (Some (verb.Print Text))
     (cond (bytes_eq w (codes "rounds")) (Some verb.Rounds)
     (cond (bytes_eq w (codes "formula")) (Some verb.Formula)
-    (cond (bytes_eq w (codes "trial")) (Some verb.Trial) (cond (bytes_eq w (codes "help")) (Some verb.Help) None)))))
+    (cond (bytes_eq w (codes "trial")) (Some verb.Trial)
+    (cond (bytes_eq w (codes "check")) (Some verb.Check) (cond (bytes_eq w (codes "help")) (Some verb.Help) None))))))
 
 -- is a model's name that of a ladder? It begins with `ladder:` (a colon is 58)
 abbrev pub names_ladder : List ℕ → Bool
@@ -116,6 +117,7 @@ asked (verb.Print form) words = print_asked form words
 asked verb.Rounds words = rounds_asked words
 asked verb.Formula words = formula_asked words
 asked verb.Trial words = result_map_both Trial (λ m. m) (model_and_file NoCalls words)
+asked verb.Check words = result_map_both Check (λ m. m) (model_and_file NoLimits words)
 
 -- the same of a word that may spell no command
 abbrev pub asked_by : Option Verb → List (List ℕ) → Result Command Mistake

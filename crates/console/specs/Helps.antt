@@ -1,7 +1,7 @@
 -- What `help` prints, and the sentences on a wrong command line.
 use Rattle.std.specs.Prelude.{ℕ, List, ◌++◌, codes}
 use Rattle.console.specs.declared.command.Mistake.{Mistake}
-use Rattle.console.specs.declared.command.Mistake.TheVariants.{NoCommand, NoSuchCommand, NoModel, NoFormula, NoCalls, TooMany, NoLadder, Rounds}
+use Rattle.console.specs.declared.command.Mistake.TheVariants.{NoCommand, NoSuchCommand, NoModel, NoFormula, NoCalls, NoLimits, TooMany, NoLadder, Rounds}
 use Rattle.console.specs.declared.command.RoundsMistake.TheVariants.{TooFew, NoRule, NoPreference, NoCount, NoValues, NoMarks}
 use Rattle.console.specs.Commands.{word_at}
 
@@ -9,7 +9,7 @@ use Rattle.console.specs.Commands.{word_at}
 abbrev pub help_text : List ℕ
 help_text =
     codes "kavzhubo shows and writes Markov decision processes, runs rounds on them, reads\n"
-    ++ (codes "formulas, and replays calls on trials.\n"
+    ++ (codes "formulas, replays calls on trials, and checks lists of limits.\n"
     ++ (codes "\n"
     ++ (codes "  kavzhubo show MODEL     print the size of a model and a line for each state\n"
     ++ (codes "  kavzhubo write MODEL    print the text of a model, byte for byte\n"
@@ -18,6 +18,8 @@ help_text =
     ++ (codes "  kavzhubo formula TEXT   print the records that a formula is read into\n"
     ++ (codes "  kavzhubo trial MODEL CALLS\n"
     ++ (codes "                          make calls on a trial of a model, print their answers\n"
+    ++ (codes "  kavzhubo check MODEL LIMITS\n"
+    ++ (codes "                          judge every formula of a list on a model\n"
     ++ (codes "  kavzhubo help           print this page\n"
     ++ (codes "\n"
     ++ (codes "MODEL is the path of a model text, or ladder:RUNGS:DENOMINATOR:WEIGHT for a\n"
@@ -53,6 +55,12 @@ help_text =
     ++ (codes "\n"
     ++ (codes "A call that is refused has its refusal for an answer.\n"
     ++ (codes "\n"
+    ++ (codes "LIMITS is the path of a list of formulas, one a line. Empty lines are passed\n"
+    ++ (codes "over, and lines that begin with # are printed as headings. For each formula the\n"
+    ++ (codes "verdict at every state is printed, and at the end how many hold at every state.\n"
+    ++ (codes "Standard error tells which of several formulas comes next. One that is refused\n"
+    ++ (codes "does not stop the list, and makes the exit status 1; a no does not.\n"
+    ++ (codes "\n"
     ++ (codes "A model text has one record on each line. One tab parts two fields of a line,\n"
     ++ (codes "and a line feed ends each line, the last one too:\n"
     ++ (codes "\n"
@@ -67,7 +75,7 @@ help_text =
     ++ (codes "refused, the number of the rule and the line, or the place in a formula, from 0;\n"
     ++ (codes "for a wrong field come its number, the word being field 0, and the length of its\n"
     ++ (codes "lawful beginning. A caret stands under the place. The exit status is 0, or 1\n"
-    ++ (codes "where something is refused or wrong.\n")))))))))))))))))))))))))))))))))))))))))))))))))))))))))))
+    ++ (codes "where something is refused or wrong.\n")))))))))))))))))))))))))))))))))))))))))))))))))))))))))))))))))))
 
 -- which word of the command line a sentence on a mistake names
 abbrev pub mistaken : Mistake → ℕ
@@ -76,6 +84,7 @@ mistaken NoSuchCommand = 0
 mistaken NoModel = 0
 mistaken NoFormula = 0
 mistaken NoCalls = 1
+mistaken NoLimits = 1
 mistaken TooMany = 0
 mistaken NoLadder = 1
 mistaken (Rounds TooFew) = 0
@@ -92,6 +101,7 @@ before_word NoSuchCommand = codes "kavzhubo: there is no command "
 before_word NoModel = codes "kavzhubo: which model? Write its path, or ladder:RUNGS:DENOMINATOR:WEIGHT, after "
 before_word NoFormula = codes "kavzhubo: which formula? Write its text after "
 before_word NoCalls = codes "kavzhubo: which calls? Write the path of their text after "
+before_word NoLimits = codes "kavzhubo: which limits? Write the path of their list after "
 before_word TooMany = codes "kavzhubo: there are too many words after "
 before_word NoLadder = codes "kavzhubo: this names no ladder: "
 before_word (Rounds TooFew) = codes "kavzhubo: there are too few words after "
@@ -108,6 +118,7 @@ after_word NoSuchCommand = codes "; kavzhubo help lists the commands\n"
 after_word NoModel = codes "\n"
 after_word NoFormula = codes ", in quotes, as 'P>=500000000[trueU<=10a]'\n"
 after_word NoCalls = codes "\n"
+after_word NoLimits = codes "\n"
 after_word TooMany = codes "; kavzhubo help says what may follow it\n"
 after_word NoLadder = codes "; write ladder:RUNGS:DENOMINATOR:WEIGHT with three numbers of one to seven digits, as ladder:2:4:3\n"
 after_word (Rounds TooFew) = codes "; write MODEL RULE PREFERENCE COUNT VALUES, as ladder:2:4:3 down greater 10 0,0,1000000000\n"

@@ -6,6 +6,7 @@ use Rattle.text.specs.Texts.{text_of, Describes}
 use Rattle.text.specs.Refusals.{refusal}
 use Rattle.ladder.specs.Ladders.{ladder_model}
 use Rattle.ladder.specs.Refusals.{ladder_fault}
+use Rattle.ladder.specs.declared.fault.LadderFault.{LadderFault}
 use Rattle.replay.specs.declared.call.Call.{Call}
 use Rattle.replay.specs.Replays.{Replayed}
 use Rattle.calls_text.specs.Requests.{given}
@@ -14,6 +15,13 @@ use Rattle.calls_text.specs.Mistakes.{mistake_text as line_text}
 use Rattle.calls_text.specs.Holdings.{holds_text, all_held}
 use Rattle.calls_text.specs.Prints.{printed as calls_printed}
 use Rattle.calls_text.specs.VerdictEnds.{VerdictsReadOff}
+use Rattle.flat.specs.Flats.{content}
+use Rattle.ladder.specs.Makes.{model_of as ladder_model_of}
+use Rattle.limits_text.specs.declared.summary.Summary.{Summary}
+use Rattle.limits_text.specs.Lists.{Written, nothing, ListWritten}
+use Rattle.limits_text.specs.Summaries.{summary_of, summary_text}
+use Rattle.console.specs.declared.found.Found.{Found}
+use Rattle.console.specs.declared.found.Found.TheVariants as found
 use Rattle.records.specs.declared.fault.JudgeFault.{JudgeFault}
 use Rattle.formula.specs.Answers.{CountAnswer}
 use Rattle.formula_text.specs.Answers.{lent, Tabled}
@@ -25,7 +33,7 @@ use Rattle.rounds_text.specs.Given.{numbers_given, are_marks}
 use Rattle.rounds_text.specs.Refusals.{request_fault, request_refusal}
 use Rattle.rounds_text.specs.Requests.{request_text}
 use Rattle.console.specs.declared.command.Command.{Command}
-use Rattle.console.specs.declared.command.Command.TheVariants.{Help, Print, Rounds, Formula, Trial}
+use Rattle.console.specs.declared.command.Command.TheVariants.{Help, Print, Rounds, Formula, Trial, Check}
 use Rattle.console.specs.declared.command.Mistake.{Mistake}
 use Rattle.console.specs.declared.command.Mistake.TheVariants as mistake
 use Rattle.console.specs.declared.command.RoundsMistake.{RoundsMistake}
@@ -77,22 +85,38 @@ or_refused line (Some f) a = refused (line f ++ codes "\n")
 abbrev pub rounds_answer : Request → List ℕ → Mdp → Answer
 rounds_answer r numbers m = or_refused request_refusal (request_fault r m.states numbers) (printed (request_text r m numbers))
 
--- the answer of a ladder, by that on a model: its refusal, or the answer on its model
-abbrev pub LadderAnswer : (Mdp → Answer → Type 0) → ℕ → ℕ → ℕ → Answer → Type 0
-LadderAnswer on r d w a = MatchOption (ladder_fault r d w) (on (ladder_model r d w) a) (λ f. a ≡ refused (ladder_refusal f ++ codes "\n"))
+-- the model that was found: that of the content in tables, or that of a ladder
+abbrev pub model_in : Found → Mdp
+model_in (found.Tables t) = model_of (content t.kept)
+model_in (found.Ladder l) = ladder_model_of l
 
--- the answer of a text: that on the model of the content that it describes, or its refusal
+-- the model of a ladder, or the answer with its refusal
+abbrev pub ladder_found : ℕ → ℕ → ℕ → Option LadderFault → Result Mdp Answer
+ladder_found r d w None = Ok (ladder_model r d w)
+ladder_found r d w (Some f) = Err (refused (ladder_refusal f ++ codes "\n"))
+
+-- the model of the content that a text describes, or the answer with its refusal
+abbrev pub TextFound : List ℕ → Result Mdp Answer → Type 0
+TextFound text r = MatchOption (refusal text) ((c : Content) × Describes text c × (r ≡ Ok (model_of c))) (λ f. r ≡ Err (refused (refusal_text f text)))
+
+-- the model that is named, or the answer that tells why there is none, given the path of its file and the bytes of that, if it could be read
+abbrev pub ModelFound : ModelName → List ℕ → Option (List ℕ) → Result Mdp Answer → Type 0
+ModelFound File path None r = r ≡ Err (wrong (no_file_text path))
+ModelFound File path (Some text) r = TextFound text r
+ModelFound (Ladder n) path file r = r ≡ ladder_found n.rungs n.denominator n.weight (ladder_fault n.rungs n.denominator n.weight)
+
+-- the answer on the model that was found, or that which tells why there is none
+abbrev pub Follows : (Mdp → Answer → Type 0) → Result Mdp Answer → Answer → Type 0
+Follows on (Ok m) a = on m a
+Follows on (Err b) a = a ≡ b
+
+-- the answer of a text, by that on a model
 abbrev pub TextAnswer : (Mdp → Answer → Type 0) → List ℕ → Answer → Type 0
-TextAnswer on text a = MatchOption (refusal text) ((c : Content) × Describes text c × on (model_of c) a) (λ f. a ≡ refused (refusal_text f text))
+TextAnswer on text a = (r : Result Mdp Answer) × TextFound text r × Follows on r a
 
--- the answer of a file, given its path and the bytes that were read, if any were
-abbrev pub FileAnswer : (Mdp → Answer → Type 0) → List ℕ → Option (List ℕ) → Answer → Type 0
-FileAnswer on path file a = MatchOption file (a ≡ wrong (no_file_text path)) (λ text. TextAnswer on text a)
-
--- the answer of a model that is named
+-- the answer of a model that is named, by that on a model
 abbrev pub ModelAnswer : (Mdp → Answer → Type 0) → ModelName → List ℕ → Option (List ℕ) → Answer → Type 0
-ModelAnswer on File path file a = FileAnswer on path file a
-ModelAnswer on (Ladder n) path file a = LadderAnswer on n.rungs n.denominator n.weight a
+ModelAnswer on name path file a = (r : Result Mdp Answer) × ModelFound name path file r × Follows on r a
 
 -- numbers, if they are there, as values of a rule: marks are 0 or 1
 abbrev pub as_values : Kind → Option (List ℕ) → Result (List ℕ) RoundsMistake
@@ -130,29 +154,45 @@ abbrev pub CallsAnswer : List ℕ → Option (List ℕ) → Mdp → Answer → T
 CallsAnswer path None m a = a ≡ wrong (no_file_text path)
 CallsAnswer path (Some text) m a = MatchResult (text_read m.states text) (λ c. Trialed m c a) (λ e. a ≡ wrong (wrong_line_text path (line_text e)))
 
+-- the answer after a list of limits: its summary, with exit status 0 only if no formula of it is refused
+abbrev pub summary_answer : Summary → Answer
+summary_answer s = cond (s.refused == 0) (printed (summary_text s)) (refused (summary_text s))
+
+-- what is written of a list of limits, and the answer then, given the list's path and its bytes, if it could be read
+abbrev pub LimitsAnswer : List ℕ → Option (List ℕ) → Result Mdp Answer → Written → Answer → Type 0
+LimitsAnswer path list (Err b) w a = (w ≡ nothing) × (a ≡ b)
+LimitsAnswer path None (Ok m) w a = (w ≡ nothing) × (a ≡ wrong (no_file_text path))
+LimitsAnswer path (Some list) (Ok m) w a = ListWritten m list w × (a ≡ summary_answer (summary_of w.outcomes))
+
+-- the same by the name of the model
+abbrev pub CheckAnswer : ModelName → List ℕ → Option (List ℕ) → List ℕ → Option (List ℕ) → Written → Answer → Type 0
+CheckAnswer name path file limits list w a = (r : Result Mdp Answer) × ModelFound name path file r × LimitsAnswer limits list r w a
+
 -- the path of a model's file, given the words of the command line
 abbrev pub model_path : ModelName → List (List ℕ) → Option (List ℕ)
 model_path File args = Some (word_at 1 args)
 model_path (Ladder n) args = None
 
--- the path of file k that a command wants read: file 0 is that of its model, and file 1 that of the calls of a trial
+-- the path of file k that a command wants read: file 0 is that of its model, and file 1 that of the calls of a trial or of a list of limits
 abbrev pub path_wanted : Result Command Mistake → ℕ → List (List ℕ) → Option (List ℕ)
 path_wanted (Ok Help) k args = None
 path_wanted (Ok (Print form m)) k args = cond (k == 0) (model_path m args) None
 path_wanted (Ok (Rounds m r)) k args = cond (k == 0) (model_path m args) None
 path_wanted (Ok Formula) k args = None
 path_wanted (Ok (Trial m)) k args = cond (k == 0) (model_path m args) (cond (k == 1) (Some (word_at 2 args)) None)
+path_wanted (Ok (Check m)) k args = cond (k == 0) (model_path m args) (cond (k == 1) (Some (word_at 2 args)) None)
 path_wanted (Err e) k args = None
 
--- the answer to a command, given the words of the command line and the bytes of files 0 and 1 that they want read
-abbrev pub CommandAnswer : Result Command Mistake → List (List ℕ) → Option (List ℕ) → Option (List ℕ) → Answer → Type 0
-CommandAnswer (Ok Help) args file calls a = a ≡ printed help_text
-CommandAnswer (Ok (Print form m)) args file calls a = ModelAnswer (Gives (form_answer form)) m (word_at 1 args) file a
-CommandAnswer (Ok (Rounds m r)) args file calls a = RoundsAnswer r m (word_at 1 args) file args a
-CommandAnswer (Ok Formula) args file calls a = FormulaTextAnswer (word_at 1 args) a
-CommandAnswer (Ok (Trial m)) args file calls a = ModelAnswer (CallsAnswer (word_at 2 args) calls) m (word_at 1 args) file a
-CommandAnswer (Err e) args file calls a = a ≡ wrong (mistake_text e args)
+-- the answer to a command and what is written before it, given the words of the command line and the bytes of files 0 and 1 that they want read
+abbrev pub CommandAnswer : Result Command Mistake → List (List ℕ) → Option (List ℕ) → Option (List ℕ) → Written → Answer → Type 0
+CommandAnswer (Ok Help) args file second w a = (w ≡ nothing) × (a ≡ printed help_text)
+CommandAnswer (Ok (Print form m)) args file second w a = (w ≡ nothing) × ModelAnswer (Gives (form_answer form)) m (word_at 1 args) file a
+CommandAnswer (Ok (Rounds m r)) args file second w a = (w ≡ nothing) × RoundsAnswer r m (word_at 1 args) file args a
+CommandAnswer (Ok Formula) args file second w a = (w ≡ nothing) × FormulaTextAnswer (word_at 1 args) a
+CommandAnswer (Ok (Trial m)) args file second w a = (w ≡ nothing) × ModelAnswer (CallsAnswer (word_at 2 args) second) m (word_at 1 args) file a
+CommandAnswer (Ok (Check m)) args file second w a = CheckAnswer m (word_at 1 args) file (word_at 2 args) second w a
+CommandAnswer (Err e) args file second w a = (w ≡ nothing) × (a ≡ wrong (mistake_text e args))
 
--- the answer to the words of the command line, given the bytes of files 0 and 1 that they want read, if these could be read
-abbrev pub Answers : List (List ℕ) → Option (List ℕ) → Option (List ℕ) → Answer → Type 0
-Answers args file calls a = CommandAnswer (command_of args) args file calls a
+-- the answer to the words of the command line and what is written before it, given the bytes of files 0 and 1 that they want read, if these could be read
+abbrev pub Answers : List (List ℕ) → Option (List ℕ) → Option (List ℕ) → Written → Answer → Type 0
+Answers args file second w a = CommandAnswer (command_of args) args file second w a

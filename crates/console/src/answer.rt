@@ -1,8 +1,10 @@
 ghost use Rattle.std.specs.Prelude.{◌≡◌, map, IfOk, string_bytes};
 ghost use Rattle.std.specs.Option.{option_map};
+ghost use Rattle.limits_text.specs.Lists.{Writes};
 ghost use Rattle.console.specs.Commands.{command_of};
 ghost use Rattle.console.specs.Replies.{answer_of, Answers, FormulaTextAnswer, path_wanted};
 
+use crate::check_reply::Limits;
 use crate::command::{Command, ModelName};
 use crate::form::print_reply;
 use crate::help::{help_text, mistake_text};
@@ -14,6 +16,8 @@ use crate::trial_reply::Calls;
 use formula_text::answer::formula_table;
 use formula_text::words::judge_refusal;
 use std::alloc::{AllocError, Global};
+use std::io;
+use std::io::Write;
 
 // The reply on a formula's text.
 fn formula_reply(heap: Global, text: &[u8]) -> Result<Reply, AllocError>
@@ -26,7 +30,8 @@ fn formula_reply(heap: Global, text: &[u8]) -> Result<Reply, AllocError>
 }
 
 // The path of the file with this number that the words of the command line want read. File 0 is that of the model, and file 1
-// that of the calls of a trial.
+// that of the calls of a trial or of a list of limits: files are counted in the order in which they are read, and a caller asks
+// for one after another.
 pub fn path(args: &[String], file: usize) -> Option<&str>
     ensures { option_map (λ x. x.now) result ≡ path_wanted (command_of (map string_bytes args.now)) file (map string_bytes args.now) }
 {
@@ -35,39 +40,52 @@ pub fn path(args: &[String], file: usize) -> Option<&str>
             Ok(
                 Command::Print(_, ModelName::File)
                 | Command::Rounds(ModelName::File, _)
-                | Command::Trial(ModelName::File),
+                | Command::Trial(ModelName::File)
+                | Command::Check(ModelName::File),
             ),
             0,
         ) => Some(word_at(args, 1)),
-        (Ok(Command::Trial(_)), 1) => Some(word_at(args, 2)),
+        (Ok(Command::Trial(_) | Command::Check(_)), 1) => Some(word_at(args, 2)),
         _ => None,
     }
 }
 
 // The reply to the words of the command line, after the program's name, given the bytes of files 0 and 1 at the paths that they
-// want read, if these could be read.
-pub fn reply(
+// want read, if these could be read. The reports of a list of limits are written as they are made, and their progress is told: to
+// two writers, which the program has one by one and a test may give of two types.
+pub fn reply<W: Write, P: Write>(
     heap: Global,
     args: &[String],
     file: Option<&[u8]>,
-    calls: Option<&[u8]>,
-) -> Result<Reply, AllocError>
-    ensures { IfOk result (λ a. Answers (map string_bytes args.now) (option_map (λ x. x.now) file.entry) (option_map (λ x. x.now) calls.entry) (answer_of a)) }
+    second: Option<&[u8]>,
+    out: &mut W,
+    progress: &mut P,
+) -> io::Result<Reply>
+    ensures { IfOk result (λ a. Writes (λ w. Answers (map string_bytes args.now) (option_map (λ x. x.now) file.entry) (option_map (λ x. x.now) second.entry) w (answer_of a)) (W.Write.contents out.old) (W.Write.contents out.new) (P.Write.contents progress.old) (P.Write.contents progress.new)) }
 {
-    let path = word_at(args, 1);
+    let (path, other) = (word_at(args, 1), word_at(args, 2));
     match command(args) {
         Ok(Command::Help) => Ok(Reply::printed(String::from_str(heap, help_text())?)),
-        Ok(Command::Print(form, name)) => print_reply(heap, form, &Named { name, path, file }),
-        Ok(Command::Rounds(name, request)) => {
-            rounds_reply(heap, request, &Named { name, path, file }, args)
+        Ok(Command::Print(form, name)) => {
+            Ok(print_reply(heap, form, &Named { name, path, file })?)
         }
-        Ok(Command::Formula) => formula_reply(heap, word_at(args, 1).as_bytes()),
+        Ok(Command::Rounds(name, request)) => {
+            Ok(rounds_reply(heap, request, &Named { name, path, file }, args)?)
+        }
+        Ok(Command::Formula) => Ok(formula_reply(heap, path.as_bytes())?),
         Ok(Command::Trial(name)) => {
             let calls = Calls {
-                path: word_at(args, 2),
-                file: calls,
+                path: other,
+                file: second,
             };
-            Named { name, path, file }.reply(heap, &calls)
+            Ok(Named { name, path, file }.reply(heap, &calls)?)
+        }
+        Ok(Command::Check(name)) => {
+            let limits = Limits {
+                path: other,
+                file: second,
+            };
+            limits.check(heap, &Named { name, path, file }, out, progress)
         }
         Err(mistake) => Ok(Reply::Wrong(mistake_text(heap, mistake, args)?)),
     }

@@ -11,7 +11,7 @@ pub enum Form {
 }
 
 // A command of the program: `help`, one that prints a model, `show` as a listing and `write` as model text, `rounds`,
-// `formula`, or `trial`.
+// `formula`, `trial`, or `check`.
 #[derive(Clone, Copy, PartialEq, Eq, Debug)]
 pub enum Verb {
     Help,
@@ -19,6 +19,7 @@ pub enum Verb {
     Rounds,
     Formula,
     Trial,
+    Check,
 }
 
 // The three numbers that name a ladder.
@@ -57,6 +58,7 @@ pub enum Mistake {
     NoModel,
     NoFormula,
     NoCalls,
+    NoLimits,
     TooMany,
     NoLadder,
     Rounds(RoundsMistake),
@@ -80,4 +82,5 @@ pub enum Command {
     Rounds(ModelName, Request),
     Formula,
     Trial(ModelName),
+    Check(ModelName),
 }

@@ -7,6 +7,7 @@ use crate::command::{Form, ModelName};
 use crate::named::Named;
 use crate::reply::Reply;
 use crate::report::Report;
+use model::limits::TEXT_BYTES;
 use model::source::Source;
 use printing::caret::refusal_text;
 use printing::listing::{model_text, show_text};
@@ -19,7 +20,7 @@ fn written(heap: Global, text: &[u8]) -> Result<Reply, AllocError>
     ensures { IfOk result (λ a. TextAnswer (Gives (form_answer Text)) text.now (answer_of a)) }
 {
     let mut tables = Tables::new(heap)?;
-    let mut out = vec![in heap; 0u8; 65_536]?;
+    let mut out = vec![in heap; 0u8; TEXT_BYTES]?;
     match tables.load_and_write(text, out.as_mut_slice()) {
         Ok(length) => {
             out.truncate(length);

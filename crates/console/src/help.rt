@@ -14,7 +14,7 @@ pub fn help_text() -> &'static str
 {
     concat!(
         "kavzhubo shows and writes Markov decision processes, runs rounds on them, reads\n",
-        "formulas, and replays calls on trials.\n",
+        "formulas, replays calls on trials, and checks lists of limits.\n",
         "\n",
         "  kavzhubo show MODEL     print the size of a model and a line for each state\n",
         "  kavzhubo write MODEL    print the text of a model, byte for byte\n",
@@ -23,6 +23,8 @@ pub fn help_text() -> &'static str
         "  kavzhubo formula TEXT   print the records that a formula is read into\n",
         "  kavzhubo trial MODEL CALLS\n",
         "                          make calls on a trial of a model, print their answers\n",
+        "  kavzhubo check MODEL LIMITS\n",
+        "                          judge every formula of a list on a model\n",
         "  kavzhubo help           print this page\n",
         "\n",
         "MODEL is the path of a model text, or ladder:RUNGS:DENOMINATOR:WEIGHT for a\n",
@@ -58,6 +60,12 @@ pub fn help_text() -> &'static str
         "\n",
         "A call that is refused has its refusal for an answer.\n",
         "\n",
+        "LIMITS is the path of a list of formulas, one a line. Empty lines are passed\n",
+        "over, and lines that begin with # are printed as headings. For each formula the\n",
+        "verdict at every state is printed, and at the end how many hold at every state.\n",
+        "Standard error tells which of several formulas comes next. One that is refused\n",
+        "does not stop the list, and makes the exit status 1; a no does not.\n",
+        "\n",
         "A model text has one record on each line. One tab parts two fields of a line,\n",
         "and a line feed ends each line, the last one too:\n",
         "\n",
@@ -76,7 +84,8 @@ pub fn help_text() -> &'static str
     )
 }
 
-// What is said of wrong words after `rounds`.
+// What is said of wrong words after `rounds`. The words stay in `args` here and below, for the reason that `ModelName` has, so
+// that what is printed is not told by a mistake alone, and no `Display` of it could be.
 fn rounds_mistake_text(
     heap: Global,
     mistake: RoundsMistake,
@@ -132,6 +141,9 @@ pub(crate) fn mistake_text(
         ),
         Mistake::NoCalls => format!(in heap;
             "kavzhubo: which calls? Write the path of their text after {model}\n",
+        ),
+        Mistake::NoLimits => format!(in heap;
+            "kavzhubo: which limits? Write the path of their list after {model}\n",
         ),
         Mistake::TooMany => format!(in heap;
             "kavzhubo: there are too many words after {command}; kavzhubo help says what may follow it\n",

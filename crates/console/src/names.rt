@@ -8,7 +8,8 @@ use rules::rounding::Rounding;
 use text::cut::{piece, piece_count};
 use text::number::number;
 
-// The command that a word spells.
+// The command that a word spells. Words are read by functions here and below: no impl for a rule or a preference, which are of
+// other crates, can stand here, and for all four words alike it is the parser that tells which mistake it is where one says nothing.
 pub(crate) fn verb(word: &str) -> Option<Verb>
     ensures { result ≡ verb_of word.now }
 {
@@ -18,6 +19,7 @@ pub(crate) fn verb(word: &str) -> Option<Verb>
         "rounds" => Some(Verb::Rounds),
         "formula" => Some(Verb::Formula),
         "trial" => Some(Verb::Trial),
+        "check" => Some(Verb::Check),
         "help" => Some(Verb::Help),
         _ => None,
     }
@@ -30,8 +32,8 @@ fn part(name: &[u8], index: usize) -> Option<u32>
     number(piece(name, b':', index), index).ok()
 }
 
-// The ladder that `ladder:` and these numbers name, if they are three. The parts are counted and each is cut for itself:
-// `next` after `next` on one `split` has seven ways out, and each would want a proof of its own of which parts are left.
+// The ladder that `ladder:` and these numbers name, if they are three. The parts are counted and each is cut for itself: `next`
+// after `next` on one `split` was tried, and of its seven ways out it stayed open which parts are left.
 fn ladder_named(numbers: &[u8]) -> Option<ModelName>
     ensures { result ≡ ladder_named (codes "ladder:" ++ numbers.now) }
 {

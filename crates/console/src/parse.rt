@@ -94,5 +94,6 @@ pub fn command(args: &[String]) -> Result<Command, Mistake>
         Verb::Rounds => rounds_asked(words),
         Verb::Formula => formula_asked(words),
         Verb::Trial => Ok(Command::Trial(model_and_file(words, Mistake::NoCalls)?)),
+        Verb::Check => Ok(Command::Check(model_and_file(words, Mistake::NoLimits)?)),
     }
 }

@@ -3,31 +3,9 @@ use Rattle.std.proofs.Common.{◌≡◌, ℕ, zero, suc, ◌+◌, ◌-◌, ◌<�
 use Rattle.std.specs.List.{range_with_len, flat_map}
 use Rattle.std.proofs.lemmas.List.{append_assoc, length-append, length-map, length-take, length-drop, get_or-map, get_or-take, get_or-drop, take_at, drop_at, ext_get_or}
 use Rattle.std.proofs.lemmas.List.FromFn.{fill_by_all, length-map-range_with_len, get_or-map-range_with_len}
-use Rattle.model.specs.declared.branch.Branch.{Branch}
 use Rattle.model.specs.Mdp.{Row, no_labels}
 use Rattle.text.specs.Contents.{State, no_state, all_choices, all_branches}
-use Rattle.flat.specs.Flats.{piece, flat_state, flat_states, StartsOk, OffsetsOk}
-
--- the running sums of numbers, from k on: k, then one for each number
-abbrev pub sums : ℕ → List ℕ → List ℕ
-sums k [] = k ∷ []
-sums k (x ∷ xs) = k ∷ sums (k + x) xs
-
--- the number of the first choice of each state, then the number of choices
-abbrev pub starts_of : List State → List ℕ
-starts_of states = sums 0 (map (λ s. length s.choices) states)
-
--- the number of the first branch of each choice, then the number of branches
-abbrev pub offsets_of : List State → List ℕ
-offsets_of states = sums 0 (map (λ r. length r) (all_choices states))
-
--- the branches of all choices
-abbrev pub branches_of : List State → List Branch
-branches_of states = all_branches (all_choices states)
-
--- the labels of all states
-abbrev pub labels_in : List State → List (List Bool)
-labels_in states = map (λ s. s.labels) states
+use Rattle.flat.specs.Flats.{piece, flat_state, flat_states, StartsOk, OffsetsOk, sums, starts_of, offsets_of, branches_of, labels_in}
 
 -- there is one sum more than numbers
 length_sums : (k : ℕ) (xs : List ℕ) → length (sums k xs) ≡ length xs + 1

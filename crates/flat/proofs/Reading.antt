@@ -24,7 +24,7 @@ use Rattle.text_laws.proofs.SoundAsks.{some_none, or_next_none, ask_next_none, n
 use Rattle.flat.specs.declared.flat.Flat.{Flat}
 use Rattle.flat.specs.declared.loader.Loader.{Loader}
 use Rattle.flat.specs.Drafts.{Added, Closed}
-use Rattle.flat.specs.Flats.{letters, content}
+use Rattle.flat.specs.Flats.{letters, content, LaidOut}
 use Rattle.flat.specs.Reads.{Holds}
 use Rattle.flat.specs.Readings.{goes_above, Begun, Follows, Stepped}
 use Rattle.flat.proofs.Told.{told_labels, told_starts, told_offsets, told_branches, same_arrays, arrays, told, completed}
@@ -191,4 +191,4 @@ module _ (text : List ℕ) (n : ℕ) (r : Loader) (k : ReadTo (lines text) n r) 
       let filled = loaded c d.within g whole in
       let units : g.denominator ≡ c.denominator = closed.denominator ∙ k.follows.denominator ∙ ap (number 2) (header_read e) in
       let held : c ≡ content g = ap₂ (λ u ss. record { denominator = u; states = ss }) (sym units) (sym filled.states) in
-      record { describes = subst (Describes text) held d; long = filled.long; rising = filled.rising; spanned = filled.spanned }
+      record { describes = subst (Describes text) held d; laid_out = subst (λ ss. LaidOut ss g) (sym filled.states) filled.laid_out; long = filled.long; rising = filled.rising; spanned = filled.spanned }

@@ -9,9 +9,9 @@ use Rattle.text_laws.proofs.CompleteFields.{labels_read}
 use Rattle.text_laws.proofs.CompleteTold.{branch_told}
 use Rattle.text_laws.proofs.States.{LawfulState, lawful_states, Small, small_rows, each_map}
 use Rattle.flat.specs.declared.flat.Flat.{Flat}
-use Rattle.flat.specs.Flats.{content, StartsOk, OffsetsOk}
+use Rattle.flat.specs.Flats.{content, StartsOk, OffsetsOk, sums, labels_in, starts_of, offsets_of, branches_of, LaidOut}
 use Rattle.flat.proofs.Told.{told_labels, told_starts, told_offsets, told_branches, arrays, told}
-use Rattle.flat.proofs.Flattening.{sums, labels_in, starts_of, offsets_of, branches_of, unflat, starts_ok, offsets_ok, length_starts}
+use Rattle.flat.proofs.Flattening.{unflat, starts_ok, offsets_ok, length_starts}
 
 -- the line that ends all
 abbrev last : List Line
@@ -116,6 +116,7 @@ module _ (c : Content) where
 -- the arrays hold the states of the content, and their numbers are in order
 pub record Filled (c : Content) (f : Flat) : Type 0 where
   pub states : (content f).states ≡ c.states
+  pub laid_out : LaidOut c.states f
   pub long : length (vec_items f.starts) ≡ length (vec_items f.labels) + 1
   pub rising : StartsOk (length (vec_items f.labels)) (length (vec_items f.offsets)) (vec_items f.starts)
   pub spanned : OffsetsOk (length (vec_items f.branches)) (vec_items f.offsets)
@@ -130,6 +131,7 @@ loaded c w f e =
     let count : length (vec_items f.labels) ≡ length c.states = sym (length-map (vec_items f.labels) (λ l. l.letters)) ∙ ap length flags ∙ length-map c.states (λ s. s.labels) in
     record {
       states = rw (flags, firsts, fronts, all) (unflat c.states);
+      laid_out = record { labels = flags; starts = firsts; offsets = fronts; branches = all };
       long = rw (firsts, count) (length_starts c.states);
       rising = rw (firsts, fronts, count) (starts_ok c.states);
       spanned = rw (fronts, all) (offsets_ok c.states);

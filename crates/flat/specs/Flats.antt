@@ -1,11 +1,11 @@
 -- What flat arrays hold: `starts` has the number of the first choice of each state and then the number of choices,
 -- `offsets` the number of the first branch of each choice and then the number of branches.
-use Rattle.std.specs.Prelude.{ℕ, ◌+◌, ◌-◌, ◌<◌, ◌≤◌, Bool, List, map, length, take, drop, vec_items, slice_index, slice_index_or}
+use Rattle.std.specs.Prelude.{◌≡◌, ℕ, ◌+◌, ◌-◌, ◌<◌, ◌≤◌, Bool, List, [], ◌∷◌, map, length, take, drop, vec_items, slice_index, slice_index_or}
 use Rattle.std.specs.List.{range_with_len}
 use Rattle.model.specs.declared.branch.Branch.{Branch}
 use Rattle.model.specs.declared.labels.Labels.{Labels}
 use Rattle.model.specs.Mdp.{Row, no_labels}
-use Rattle.text.specs.Contents.{State, Content}
+use Rattle.text.specs.Contents.{State, Content, all_choices, all_branches}
 use Rattle.flat.specs.declared.flat.Flat.{Flat}
 
 -- the row of choice number k, counted over all states
@@ -45,3 +45,31 @@ StartsOk n count starts = (s : ℕ) → s < n → (slice_index starts s ≤ slic
 -- the first branches of the choices rise and stand in `branches`, of this length
 abbrev pub OffsetsOk : ℕ → List ℕ → Type 0
 OffsetsOk count offsets = (k : ℕ) → k + 1 < length offsets → (slice_index offsets k ≤ slice_index offsets (k + 1)) × (slice_index offsets (k + 1) ≤ count)
+
+-- the running sums of numbers, from k on: k, then one for each number
+abbrev pub sums : ℕ → List ℕ → List ℕ
+sums k [] = k ∷ []
+sums k (x ∷ xs) = k ∷ sums (k + x) xs
+
+-- the number of the first choice of each state, then the number of choices
+abbrev pub starts_of : List State → List ℕ
+starts_of states = sums 0 (map (λ s. length s.choices) states)
+
+-- the number of the first branch of each choice, then the number of branches
+abbrev pub offsets_of : List State → List ℕ
+offsets_of states = sums 0 (map (λ r. length r) (all_choices states))
+
+-- the branches of all choices
+abbrev pub branches_of : List State → List Branch
+branches_of states = all_branches (all_choices states)
+
+-- the labels of all states
+abbrev pub labels_in : List State → List (List Bool)
+labels_in states = map (λ s. s.labels) states
+
+-- the arrays are those of these states, and nothing else stands in them
+pub record LaidOut (states : List State) (f : Flat) : Type 0 where
+  pub labels : letters (vec_items f.labels) ≡ labels_in states
+  pub starts : vec_items f.starts ≡ starts_of states
+  pub offsets : vec_items f.offsets ≡ offsets_of states
+  pub branches : vec_items f.branches ≡ branches_of states

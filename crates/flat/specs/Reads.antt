@@ -6,11 +6,12 @@ use Rattle.text.specs.Cuts.{lines}
 use Rattle.text.specs.Refusals.{lines_refusal, refusal}
 use Rattle.flat.specs.declared.flat.Flat.{Flat}
 use Rattle.flat.specs.Drafts.{Emptied}
-use Rattle.flat.specs.Flats.{content, StartsOk, OffsetsOk}
+use Rattle.flat.specs.Flats.{content, LaidOut, StartsOk, OffsetsOk}
 
--- the arrays hold the content that the text describes, and their numbers are in order
+-- the arrays hold the content that the text describes, and nothing besides, and their numbers are in order
 pub record Holds (text : List ℕ) (f : Flat) : Type 0 where
   pub describes : Describes text (content f)
+  pub laid_out : LaidOut (content f).states f
   pub long : length (vec_items f.starts) ≡ length (vec_items f.labels) + 1
   pub rising : StartsOk (length (vec_items f.labels)) (length (vec_items f.offsets)) (vec_items f.starts)
   pub spanned : OffsetsOk (length (vec_items f.branches)) (vec_items f.offsets)

@@ -9,6 +9,7 @@ ghost use Rattle.flat.specs.Readings.{row_of, goes_above, Follows, Admits, WordR
 
 use crate::loader::{Header, Loader, Record};
 use model::branch::Branch;
+use model::limits::{BRANCHES, CHOICES, DENOMINATOR, STATES};
 use text::cut::{field, field_count};
 use text::fault::LineFault;
 use text::labels::labels;
@@ -53,11 +54,11 @@ fn two_numbers(line: &[u8]) -> Result<(u32, u32), LineFault>
     Ok((first, second))
 }
 
-// Are there 1 to 512 states, and is the denominator 1 to 1,000,000?
+// Are the numbers of states and of units within their limits?
 fn header_in_range(states: u32, denominator: u32) -> bool
     ensures { result ≡ (between 1 512 states && between 1 1000000 denominator) }
 {
-    (1..=512).contains(&states) && (1..=1_000_000).contains(&denominator)
+    (1..=STATES as u32).contains(&states) && (1..=DENOMINATOR).contains(&denominator)
 }
 
 // A header: its numbers are lawful (5) and in range (6).
@@ -120,7 +121,7 @@ impl Loader<'_> {
         if !self.row_closes() {
             return Err(LineFault::Sum);
         }
-        if self.flat.offsets.len() >= 2048 {
+        if self.flat.offsets.len() >= CHOICES {
             return Err(LineFault::Choices);
         }
         Ok(Record::Choice)
@@ -147,7 +148,7 @@ impl Loader<'_> {
         if !is_above(self.open_row(), target) {
             return Err(LineFault::Order);
         }
-        if self.flat.branches.len() >= 4096 {
+        if self.flat.branches.len() >= BRANCHES {
             return Err(LineFault::Branches);
         }
         Ok(Record::Branch(Branch { target, weight }))

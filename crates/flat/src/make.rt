@@ -4,6 +4,7 @@ ghost use Rattle.flat.specs.Fresh.{FreshFlat};
 use crate::flat::Flat;
 use model::branch::Branch;
 use model::labels::Labels;
+use model::limits::{BRANCHES, CHOICES, STATES};
 use std::alloc::{AllocError, Global};
 
 impl Flat {
@@ -12,12 +13,12 @@ impl Flat {
     pub fn new(heap: Global) -> Result<Flat, AllocError>
         ensures { IfOk result FreshFlat }
     {
-        let labels = reserved(heap, 512, &[Labels::default()])?;
-        let starts = reserved(heap, 513, &[0usize, 1])?;
-        let offsets = reserved(heap, 2049, &[0usize, 1])?;
+        let labels = reserved(heap, STATES, &[Labels::default()])?;
+        let starts = reserved(heap, STATES + 1, &[0usize, 1])?;
+        let offsets = reserved(heap, CHOICES + 1, &[0usize, 1])?;
         let branches = reserved(
             heap,
-            4096,
+            BRANCHES,
             &[Branch {
                 target: 0,
                 weight: 1,

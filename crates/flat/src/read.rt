@@ -4,6 +4,7 @@ ghost use Rattle.flat.specs.Reads.{LinesRead, ReadInto};
 
 use crate::flat::Flat;
 use crate::loader::Loader;
+use model::limits::TEXT_BYTES;
 use text::fault::FileFault;
 use text::word::Word;
 
@@ -31,7 +32,7 @@ impl Flat {
         ensures { ReadInto text.now self.new result }
     {
         self.clear();
-        if text.len() > 65_536 {
+        if text.len() > TEXT_BYTES {
             return Err(FileFault::Long);
         }
         let Some((b'\n', body)) = text.split_last() else {

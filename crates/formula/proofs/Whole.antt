@@ -1,5 +1,6 @@
 -- From what is read at the start of a text to the whole text.
-use Rattle.std.proofs.Common.{◌≡◌, ℕ, zero, suc, Bool, true, false, ◌+◌, ◌-◌, ◌<◌, ◌≤◌, List, [], ◌∷◌, ◌++◌, length, take, drop, None, Some, Err, Option, sym, refl, ap, ◌∙◌, subst, append_assoc, append-nil, arith, length-append, length-drop}
+use Rattle.std.proofs.Common.{◌≡◌, ℕ, zero, suc, Bool, true, false, ◌+◌, ◌-◌, ◌<◌, ◌≤◌, List, [], ◌∷◌, ◌++◌, length, take, drop, None, Some, Ok, Err, Option, Result, sym, refl, ap, ◌∙◌, subst, append_assoc, append-nil, arith, length-append, length-drop}
+use Rattle.std.specs.Result.{IsOk}
 use Rattle.std.proofs.Math.Seq.{take-append-add}
 use Rattle.std.proofs.lemmas.List.{drop_all, set_at, take_all}
 use Rattle.model.specs.Mdp.{over}
@@ -17,7 +18,7 @@ use Rattle.records.specs.declared.fault.JudgeFault.TheVariants as judge
 use Rattle.formula.specs.declared.reading.Reading.{Reading}
 use Rattle.formula.specs.Records.{size, records}
 use Rattle.formula.specs.Questions.{placed, fault_by, formula_fault}
-use Rattle.formula.specs.Readings.{overlaid, StateRead}
+use Rattle.formula.specs.Readings.{overlaid, StateRead, StateReads}
 use Rattle.formula.specs.Answers.{Begins, NoFormula, WholeRead, Within, Accepted, Faulty, FormulaAnswer, JudgeAnswer}
 use Rattle.formula.proofs.Forms.{state_word, length_records}
 use Rattle.formula.proofs.Limits.{limits}
@@ -169,3 +170,8 @@ filled {text} {lent} {left} {left'} {n} {r} s again = record {
 
     within : Within (length lent) s.formula
     within = (limits (length lent) s.formula s.spelled).0 s.limits
+
+-- a text that spells a formula is read
+pub is_read : {text : List ℕ} (lent left : List Record) (r : Result Reading ℕ) → StateReads text 0 0 lent left r → StateWord text → IsOk r
+is_read lent left (Ok q) s w = refl
+is_read lent left (Err p) s w = absurd ((broken_off _ _ s).none w)

@@ -71,21 +71,3 @@ pub record StepsRead (text : List ℕ) (at : ℕ) (s : Steps) : Type 0 where
 abbrev pub StepsReads : List ℕ → ℕ → Result Steps ℕ → Type 0
 StepsReads text at (Ok s) = StepsRead text at s
 StepsReads text at (Err p) = Refused StepsWord text at p
-
--- may the byte follow n digits that write v?
-abbrev pub follows : ℕ → ℕ → ℕ → Bool
-follows v n byte = nat_le 48 byte && (nat_le byte 57 && (n == 0 || nat_lt 0 v))
-
--- the first n bytes, at most ten, write v, or there are none
-pub record DigitsBegun (field : List ℕ) (n v : ℕ) : Type 0 where
-  pub within : n ≤ length field
-  pub short : n ≤ 10
-  pub bound : v < 10 ^ n
-  pub small : v < 10 ^ 10
-  pub empty : n ≡ 0 → v ≡ 0
-  pub written : 0 < n → take n field ≡ decimal v
-
--- and no further digit goes on
-pub record DigitsRead (field : List ℕ) (v n : ℕ) : Type 0 where
-  pub front : DigitsBegun field n v
-  pub stop : n < length field → n < 10 → follows v n (slice_index field n) ≡ false

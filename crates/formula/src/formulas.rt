@@ -9,7 +9,8 @@ use records::record::{Kind, Record};
 // Reads the state formula that begins there, and writes its records from number `count` on, as far as there is room:
 // what is known of it, or the place where every beginning of a formula breaks off. The count is no field of
 // the cursor: a place goes on over each byte, and the count only where a formula ends, whose reading tells it to the next
-// part. It is at most the place, since each record has a byte of its own.
+// part. It is at most the place, since each record has a byte of its own. It and the reader of a path formula call each other,
+// as the rules of the grammar name each other.
 #[cycle(path_formula_state_formula)]
 pub(crate) fn state_formula(
     from: Cursor<'_>,

@@ -1,4 +1,4 @@
-ghost use Rattle.std.specs.Prelude.{◌≡◌, List, length};
+ghost use Rattle.std.specs.Prelude.{◌≡◌, List, length, Some, None, MatchResult};
 ghost use Rattle.grammar.specs.Spelling.{OneReading};
 ghost use Rattle.formula.specs.Questions.{fault_by};
 ghost use Rattle.formula.specs.Answers.{Limits, Places, FormulaAnswer, JudgeAnswer, CountAnswer, Surveyed};
@@ -15,11 +15,10 @@ use records::record::Record;
 pub fn record_count(text: &[u8], lent: usize) -> Result<usize, JudgeFault>
     ensures { CountAnswer text.now lent result }
 {
-    if text.len() < 1 || text.len() > 1024 {
+    if !(1..=1024).contains(&text.len()) {
         return Err(JudgeFault::Length);
     }
-    let count = formula_count(text, lent)?;
-    Ok(count)
+    Ok(formula_count(text, lent)?)
 }
 
 // The same of a text of any length.
@@ -27,10 +26,8 @@ fn formula_count(text: &[u8], lent: usize) -> Result<usize, FormulaFault>
     ensures { (records : List RecordValue) → length records ≡ lent → (left : List RecordValue) × FormulaAnswer text.now records left result }
 {
     let reading = survey(text)?;
-    match fault_of(reading, lent) {
-        Some(fault) => Err(fault),
-        None => Ok(reading.count),
-    }
+    check(reading, lent)?;
+    Ok(reading.count)
 }
 
 // Reads the text of a formula of 1 to 1,024 bytes and fills the lent records with those of its state formulas: all of
@@ -43,10 +40,8 @@ pub fn read_formula(text: &[u8], records: &mut [Record]) -> Result<usize, JudgeF
     ensures answer { JudgeAnswer text.now records.old records.new result }
 {
     let count = record_count(text, records.len())?;
-    match state_formula(Cursor { text, at: 0 }, records, 0) {
-        Ok(_) => Ok(count),
-        Err(_) => unreachable!(),
-    }
+    state_formula(Cursor { text, at: 0 }, records, 0).unwrap();
+    Ok(count)
 }
 
 // What is known of the formula that the whole text spells.
@@ -60,13 +55,21 @@ fn survey(text: &[u8]) -> Result<Reading, FormulaFault>
     }
 }
 
-// The first question whose answer is no, where so many records are lent.
-fn fault_of(reading: Reading, lent: usize) -> Option<FormulaFault>
-    ensures { result ≡ fault_by reading.large reading.depth reading.count lent reading.unbounded }
+// Asks the questions in turn, where so many records are lent: the first whose answer is no refuses.
+fn check(reading: Reading, lent: usize) -> Result<(), FormulaFault>
+    ensures { MatchResult result (λ _. fault_by reading.large reading.depth reading.count lent reading.unbounded ≡ None) (λ e. fault_by reading.large reading.depth reading.count lent reading.unbounded ≡ Some e) }
 {
-    let large = reading.large.map(|place| FormulaFault::Number { place });
-    let deep = (reading.depth > 32).then_some(FormulaFault::Depth);
-    let many = (reading.count > 64 || reading.count > lent).then_some(FormulaFault::Records);
-    let unbounded = reading.unbounded.map(|place| FormulaFault::Until { place });
-    large.or(deep).or(many).or(unbounded)
+    if let Some(place) = reading.large {
+        return Err(FormulaFault::Number { place });
+    }
+    if reading.depth > 32 {
+        return Err(FormulaFault::Depth);
+    }
+    if reading.count > 64 || reading.count > lent {
+        return Err(FormulaFault::Records);
+    }
+    if let Some(place) = reading.unbounded {
+        return Err(FormulaFault::Until { place });
+    }
+    Ok(())
 }

@@ -1,8 +1,8 @@
-ghost use Rattle.std.specs.Prelude.{◌≡◌};
-ghost use Rattle.formula.specs.Tokens.{follows, SignReads, NumberReads, BoundReads, StepsReads, DigitsRead};
+ghost use Rattle.formula.specs.Tokens.{SignReads, NumberReads, BoundReads, StepsReads};
 
 use crate::cursor::Cursor;
 use records::comparison::Comparison;
+use text::number::leading_number;
 
 // A number, and the place of its first digit.
 #[derive(Clone, Copy)]
@@ -46,10 +46,7 @@ impl Cursor<'_> {
         ensures { NumberReads self.entry.text.now self.entry.at result }
     {
         let Cursor { text, at } = self;
-        let (value, length) = digits(&text[at..]);
-        if length == 0 {
-            return Err(at);
-        }
+        let (value, length) = leading_number(&text[at..]).ok_or(at)?;
         Ok((Number { value, place: at }, at + length))
     }
 
@@ -84,25 +81,4 @@ impl Cursor<'_> {
             end,
         })
     }
-}
-
-// The number that the longest front of at most ten digits writes, and how many digits it has: after a 0 comes no other.
-fn digits(field: &[u8]) -> (u64, usize)
-    ensures { DigitsRead field.now result.0 result.1 }
-{
-    let mut value: u64 = 0;
-    for (length, byte) in field.iter().enumerate() {
-        if length == 10 || !may_follow(value, length, *byte) {
-            return (value, length);
-        }
-        value = value * 10 + (*byte - b'0') as u64;
-    }
-    (value, field.len())
-}
-
-// May the byte follow so many digits that write this value?
-fn may_follow(value: u64, length: usize, byte: u8) -> bool
-    ensures { result ≡ follows value length byte }
-{
-    byte.is_ascii_digit() && (length == 0 || value > 0)
 }

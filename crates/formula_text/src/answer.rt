@@ -7,7 +7,7 @@ use records::fault::JudgeFault;
 use records::record::{Kind, Record};
 use std::alloc::{AllocError, Global};
 
-// A record that nothing is read into yet.
+// A record that nothing is read into yet. `Record` has no `Default`: none of them stands for no formula.
 pub const BLANK: Record = Record {
     kind: Kind::Truth,
     first: 0,
@@ -23,6 +23,7 @@ pub const BLANK: Record = Record {
 pub fn formula_table(heap: Global, text: &[u8]) -> Result<Result<String, JudgeFault>, AllocError>
     ensures { IfOk result (λ a. TableAnswer text.now a) }
 {
+    // A formula has at most 64 records, so an array of a fixed length does, and no memory is wanted for it.
     let mut records = [BLANK; 64];
     match read_formula(text, &mut records) {
         Ok(count) => Ok(Ok(records_table(heap, &records[..count])?)),

@@ -42,7 +42,8 @@ pub fn judge_words(fault: &JudgeFault) -> &'static str
     }
 }
 
-// The line of a refusal: its number, its place and its words.
+// The line of a refusal: its number, its place and its words. Here and below `heap` and `fault` are arguments: a caller has a fault
+// of the judge and wants one text of it, and a struct of the two would be made for that one call.
 pub fn judge_line(heap: Global, fault: &JudgeFault) -> Result<String, AllocError>
     ensures { IfOk result (λ s. string_bytes s ≡ judge_line fault.now) }
 {

@@ -12,12 +12,15 @@ fn file(rt: &HostRuntime, args: &[String], number: usize) -> Option<Vec<u8>> {
     path(args, number).and_then(|path| fs::read(rt, path).ok())
 }
 
-// Reads the files that the command line names, and prints the reply: a success where nothing is refused or wrong.
+// Reads the files that the command line names, and prints the reply: a success where nothing is refused or wrong. The reports
+// of a list of limits go to standard output as they are made, and their progress to standard error.
 fn run(rt: &HostRuntime) -> io::Result<ExitCode> {
     let args: Vec<String> = env::args(rt)?.skip(1).collect(rt.alloc())?;
     let args = args.as_slice();
-    let (model, calls) = (file(rt, args, 0), file(rt, args, 1));
-    match reply(rt.alloc(), args, model.as_deref(), calls.as_deref())? {
+    let (model, other) = (file(rt, args, 0), file(rt, args, 1));
+    let (model, other) = (model.as_deref(), other.as_deref());
+    let (mut out, mut progress) = (rt.stdout(), rt.stderr());
+    match reply(rt.alloc(), args, model, other, &mut out, &mut progress)? {
         Reply::Printed(text) => {
             rt.stdout().write_all(text.as_slice())?;
             Ok(ExitCode::SUCCESS)

@@ -6,6 +6,7 @@ ghost use Rattle.layers.specs.HoldAnswers.{Ran};
 use crate::fault::HoldFault;
 use model::branch::Branch;
 use model::labels::Labels;
+use model::limits::STATES;
 use model::source::Source;
 
 // The hold layer: the source below with some states held.
@@ -15,7 +16,7 @@ use model::source::Source;
 pub struct Hold<S> {
     below: S,
     // one flag for each state that a model can have: a layer has no heap
-    held: [bool; 512],
+    held: [bool; STATES],
 }
 
 impl<S: Source> Hold<S> {
@@ -27,7 +28,7 @@ impl<S: Source> Hold<S> {
     {
         Hold {
             below,
-            held: [false; 512],
+            held: [false; STATES],
         }
     }
 

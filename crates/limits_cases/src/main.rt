@@ -1,27 +1,17 @@
 // The cases of lists of limits: each line of the input names the files of a model and of a list, and what is printed of the
 // list is printed. The expected output was worked out from the rules in words, by a program in another language.
-// It may use the crates model, text, tables, trial and limits_text, and those below.
+// It may use the crates model, tables and limits_text, and those below.
 #![tactic(auto)]
 
-use limits_text::report::line_report;
+use limits_text::list::report_list;
 use limits_text::summary::Summary;
 use std::io::{BufRead, BufReader};
 use std::{fs, io};
 use tables::tables::Tables;
-use text::cut::{piece, piece_count};
 
 // Prints what is printed of a list on a model: of each line, and the summary.
 fn print_list(rt: &HostRuntime, model: &Tables, list: &[u8]) -> io::Result<()> {
-    let heap = rt.alloc();
-    let mut outcomes = Vec::new(heap);
-    for index in 0..piece_count(list, b'\n') {
-        let line = piece(list, b'\n', index);
-        let (text, outcome) = line_report(heap, model, index + 1, line)?;
-        rt.print(text.as_str())?;
-        if let Some(outcome) = outcome {
-            outcomes.push(outcome)?;
-        }
-    }
+    let outcomes = report_list(rt.alloc(), model, list, &mut rt.stdout(), &mut io::sink())?;
     rt.print(Summary::of(outcomes.as_slice()))
 }
 

@@ -3,3 +3,4 @@ pub mod Units
 pub mod Printable
 pub mod Outcomes
 pub mod Answering
+pub mod Reporting

@@ -4,3 +4,4 @@ pub mod Tables
 pub mod Outcomes
 pub mod Reports
 pub mod Summaries
+pub mod Lists

@@ -9,13 +9,15 @@ pub enum Item {
     Formula,
 }
 
-// What this line is: nothing where it is empty, a heading where it begins with `#`, else a formula.
-pub fn item_of(line: &[u8]) -> Item
-    ensures { result ≡ item_of line.now }
-{
-    match line {
-        [] => Item::Nothing,
-        [b'#', ..] => Item::Heading,
-        _ => Item::Formula,
+// What a line is: nothing where it is empty, a heading where it begins with `#`, else a formula.
+impl From<&[u8]> for Item {
+    ghost from_gives = { λ line item. item ≡ item_of line.now };
+
+    fn from(line: &[u8]) -> Item {
+        match line {
+            [] => Item::Nothing,
+            [b'#', ..] => Item::Heading,
+            _ => Item::Formula,
+        }
     }
 }

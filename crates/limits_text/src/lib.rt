@@ -3,6 +3,7 @@
 #![tactic(auto)]
 
 pub mod item;
+pub mod list;
 pub mod outcome;
 pub mod report;
 pub mod summary;

@@ -21,7 +21,8 @@ pub enum Outcome {
     Refused,
 }
 
-// How many bytes of a row are this one.
+// How many bytes of a row are this one. The summary counts outcomes by the same chain, and a judge its verdicts: a function for all
+// would stand in a crate below and be this one line.
 fn how_many(byte: u8, row: &[u8]) -> usize
     ensures { result ≡ count_by (λ b. b == byte) row.now }
 {

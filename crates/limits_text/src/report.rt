@@ -1,10 +1,11 @@
 ghost use Rattle.std.specs.Prelude.{◌≡◌, ℕ, ◌++◌, map, length, IfOk, string_bytes, codes, Option};
+ghost use Rattle.std.specs.Option.{option_map};
 ghost use Rattle.trial.specs.PathEnds.{TwoEnds, Told};
 ghost use Rattle.printing.specs.Carets.{shown};
 ghost use Rattle.limits_text.specs.Outcomes.{counts_of, outcome_of};
 ghost use Rattle.limits_text.specs.Reports.{formula_report, refusal_report, ReportAnswer, numbered, LineAnswer};
 
-use crate::item::{Item, item_of};
+use crate::item::Item;
 use crate::outcome::{Counts, Outcome};
 use crate::table::table;
 use formula_text::answer::BLANK;
@@ -21,9 +22,9 @@ fn formula_report(
     heap: Global,
     text: &[u8],
     row: &[u8],
-    ends: &Option<Ends>,
+    ends: Option<&Ends>,
 ) -> Result<(String, Outcome), AllocError>
-    ensures report { (two : Option TwoEnds) → Told (length row.now) two ends.now → IfOk result (λ r. string_bytes r.0 ≡ formula_report (map shown text.now) row.now two) }
+    ensures report { (two : Option TwoEnds) → Told (length row.now) two (option_map (λ x. x.now) ends.entry) → IfOk result (λ r. string_bytes r.0 ≡ formula_report (map shown text.now) row.now two) }
     ensures outcome { IfOk result (λ r. r.1 ≡ outcome_of (counts_of row.now)) }
 {
     let formula = shown_line(heap, text)?;
@@ -50,6 +51,7 @@ pub fn report<S: Source>(
     ensures { IfOk result (λ r. ReportAnswer (S.Source.model source.now) text.now (string_bytes r.0) r.1) }
 {
     let states = source.states();
+    // No formula has more records, so an array of a fixed length does.
     let mut records = [BLANK; 64];
     let mut scratch = vec![in heap; 0u8; 64 * states]?;
     let mut row = vec![in heap; 0u8; states]?;
@@ -61,7 +63,7 @@ pub fn report<S: Source>(
         row.as_mut_slice(),
     );
     match judged {
-        Ok(judged) => formula_report(heap, text, row.as_slice(), &judged.ends),
+        Ok(judged) => formula_report(heap, text, row.as_slice(), judged.ends.as_ref()),
         Err(fault) => Ok((refusal_report(heap, &fault, text)?, Outcome::Refused)),
     }
 }
@@ -91,7 +93,7 @@ pub fn line_report<S: Source>(
 ) -> Result<(String, Option<Outcome>), AllocError>
     ensures { IfOk result (λ r. LineAnswer (S.Source.model source.now) number line.now (string_bytes r.0) r.1) }
 {
-    match item_of(line) {
+    match Item::from(line) {
         Item::Nothing => Ok((String::new(heap), None)),
         Item::Heading => {
             let mut heading = shown_line(heap, line)?;

@@ -37,7 +37,8 @@ impl Summary {
     }
 }
 
-// A line of the summary: a number, and what it counts.
+// A line of the summary: a number, and what it counts. The line of a state has this shape too; a type of both would be generic
+// over what follows the number, and its output no plainer than two.
 #[derive(Clone, Copy)]
 struct Line(usize, &'static str);
 

@@ -1,4 +1,5 @@
 ghost use Rattle.std.specs.Prelude.{◌≡◌, ℕ, ◌<◌, length, Some, IfOk, string_bytes, Option};
+ghost use Rattle.std.specs.Option.{option_map};
 ghost use Rattle.trial.specs.PathEnds.{TwoEnds, Told};
 ghost use Rattle.limits_text.specs.Tables.{verdict_word, verdict_cells, state_line, heading, units_at, table};
 
@@ -7,7 +8,7 @@ use std::fmt;
 use std::fmt::Write;
 use trial::two_ends::Ends;
 
-// The word for a verdict byte.
+// The word for a verdict byte: a judge leaves a row of bytes, of which any but the three that it writes has to have a word, too.
 fn verdict_word(byte: u8) -> &'static str
     ensures { result.now ≡ verdict_word byte }
 {
@@ -53,8 +54,8 @@ impl fmt::Display for StateLine {
 }
 
 // The names of the columns, of a table with ends and of one without.
-fn heading(ends: &Option<Ends>) -> &'static str
-    ensures { result.now ≡ heading ends.now }
+fn heading(ends: Option<&Ends>) -> &'static str
+    ensures { result.now ≡ heading (option_map (λ x. x.now) ends.entry) }
 {
     match ends {
         None => "  state  verdict\n",
@@ -63,21 +64,16 @@ fn heading(ends: &Option<Ends>) -> &'static str
 }
 
 // Both ends at a state, in units, if there are ends.
-fn units_at(ends: &Option<Ends>, state: usize) -> Option<(u32, u32)>
-    ensures { (n : ℕ) (two : Option TwoEnds) → Told n two ends.now → state < n → result ≡ units_at two state }
+fn units_at(ends: Option<&Ends>, state: usize) -> Option<(u32, u32)>
+    ensures { (n : ℕ) (two : Option TwoEnds) → Told n two (option_map (λ x. x.now) ends.entry) → state < n → result ≡ units_at two state }
 {
-    match ends {
-        None => None,
-        Some(ends) => {
-            let (lower, upper) = ends.at(state)?;
-            Some((lower.units(), upper.units()))
-        }
-    }
+    let (lower, upper) = ends?.at(state)?;
+    Some((lower.units(), upper.units()))
 }
 
 // The table of a row of verdict bytes, and of the ends that it was read off if there are any.
-pub(crate) fn table(heap: Global, row: &[u8], ends: &Option<Ends>) -> Result<String, AllocError>
-    ensures { (two : Option TwoEnds) → Told (length row.now) two ends.now → IfOk result (λ s. string_bytes s ≡ table row.now two) }
+pub(crate) fn table(heap: Global, row: &[u8], ends: Option<&Ends>) -> Result<String, AllocError>
+    ensures { (two : Option TwoEnds) → Told (length row.now) two (option_map (λ x. x.now) ends.entry) → IfOk result (λ s. string_bytes s ≡ table row.now two) }
 {
     let mut out = String::from_str(heap, heading(ends))?;
     for (state, verdict) in row.iter().enumerate() {

@@ -4,5 +4,6 @@
 
 pub mod branch;
 pub mod labels;
+pub mod limits;
 pub mod refs;
 pub mod source;

@@ -2,6 +2,7 @@ ghost use Rattle.pairs.specs.Pairs.{at_least, least};
 ghost use Rattle.pairs.specs.Laws.{pairs_lawful};
 
 use model::branch::Branch;
+use rules::denominator::Denominator;
 use rules::rule::Rule;
 
 // The rule of pairs: the greater pair in lexicographic order is preferred, and a row is mixed to the least pair among its
@@ -22,7 +23,7 @@ impl Rule for Pairs {
         a >= b
     }
 
-    fn mix(&self, _denominator: u32, row: &[Branch], values: &[(u32, u32)]) -> (u32, u32) {
+    fn mix(&self, _denominator: &Denominator, row: &[Branch], values: &[(u32, u32)]) -> (u32, u32) {
         row.iter().fold(
             (u32::MAX, u32::MAX),
             |least, branch| least.min(values[branch.target]),

@@ -1,32 +1,42 @@
--- Where the fields of a line begin, from one tab to the next.
-use Rattle.std.proofs.Common.{◌≡◌, ◌≢◌, ℕ, zero, suc, ◌+◌, ◌-◌, ◌<◌, ◌≤◌, eqb, List, [], ◌∷◌, length, drop, refl, ap, ◌∙◌, arith}
-use Rattle.std.specs.List.{AllWithin, HoldsAt}
-use Rattle.std.proofs.lemmas.Bool.{cond-true, cond-false, eq-eqb, ne_eqb}
+-- Where the fields of a line begin, told by the lengths of the fields before.
+use Rattle.std.proofs.Common.{◌≡◌, ℕ, zero, suc, ◌+◌, ◌<◌, ◌≤◌, min, eqb, inl, inr, List, [], ◌∷◌, length, take, ap, ◌∙◌, arith}
+use Rattle.std.specs.List.{onto_first, slice_split, sum_by}
+use Rattle.std.proofs.Math.Nat.{min-zero, zero-min}
+use Rattle.std.proofs.lemmas.Bool.{cases_Bool, cond-true, cond-false}
+use Rattle.std.proofs.lemmas.List.Splits.{slice_split-cons_yes, slice_split-cons_no, length-slice_split}
+use Rattle.std.proofs.lemmas.List.Sums.{sum_by-cons, sum_by-take-le}
 use Rattle.printing.specs.Carets.{field_place}
 
--- where no byte is a tab, every later field is at the line's end
-pub no_tab : (k : ℕ) (line : List ℕ) → AllWithin (λ b. b ≢ 9) line 0 (length line) → field_place (suc k) line ≡ length line
-no_tab k [] none = refl
-no_tab k (b ∷ bs) none =
-    let other = ap (λ n. field_place n bs) (cond-false (eqb b 9) k (suc k) (ne_eqb b 9 (none 0 0 (omega arith) (omega arith)))) in
-    let rest = no_tab k bs (λ i d low h. none (suc i) d (omega arith) (omega arith)) in
-    omega arith
+-- the bytes of a field and the tab behind it
+abbrev pub with_tab : List ℕ → ℕ
+with_tab field = length field + 1
 
--- where byte i is the first tab, a later field begins behind it
-pub at_tab : (k i : ℕ) (line : List ℕ) → i < length line → HoldsAt (λ b. b ≡ 9) line i → AllWithin (λ b. b ≢ 9) line 0 i → field_place (suc k) line ≡ i + 1 + field_place k (drop (i + 1) line)
-at_tab k i [] h at none = absurd (omega arith)
-at_tab k zero (b ∷ bs) h at none = ap (λ n. 1 + field_place n bs) (cond-true (eqb b 9) k (suc k) (eq-eqb b 9 (at 0)))
-at_tab k (suc i) (b ∷ bs) h at none =
-    let other = ap (λ n. field_place n bs) (cond-false (eqb b 9) k (suc k) (ne_eqb b 9 (none 0 0 (omega arith) (omega arith)))) in
-    let rest = at_tab k i bs (omega arith) (λ d. at d) (λ j d low h. none (suc j) d (omega arith) (omega arith)) in
-    let next : suc i + 1 ≡ suc (i + 1) = omega arith in
-    omega (arith, ap (λ n. field_place k (drop n (b ∷ bs))) next)
+-- the parts of a line at each tab
+abbrev pub tab_parts : List ℕ → List (List ℕ)
+tab_parts line = slice_split (λ b. eqb b 9) line
 
--- field 0 begins where the line does
-none_past : (line : List ℕ) → field_place 0 line ≡ 0
-none_past [] = refl
-none_past (b ∷ bs) = refl
+-- the bytes of the first k fields and the tabs behind them
+abbrev pub passed : ℕ → List (List ℕ) → ℕ
+passed k parts = sum_by with_tab (take k parts)
 
--- so it does where all tabs are passed
-pub all_past : (k t : ℕ) (line : List ℕ) → k ≤ t → field_place (k - t) line ≡ 0
-all_past k t line h = let none : k - t ≡ 0 = omega arith in ap (λ n. field_place n line) none ∙ none_past line
+-- a byte more at the front of the first part
+onto_passed : (k b : ℕ) (parts : List (List ℕ)) → 0 < length parts → passed (suc k) (onto_first b parts) ≡ 1 + passed (suc k) parts
+onto_passed k b [] some = absurd (omega arith)
+onto_passed k b (part ∷ parts) some = omega (arith, sum_by-cons with_tab (b ∷ part) (take k parts), sum_by-cons with_tab part (take k parts))
+
+-- field k begins behind the first k fields and their tabs, or at the line's end, past which these come by one at most
+pub places : (k : ℕ) (line : List ℕ) → (passed k (tab_parts line) ≤ length line + 1) × (min (passed k (tab_parts line)) (length line) ≡ field_place k line)
+places k [] = (sum_by-take-le with_tab ([] ∷ []) k, min-zero _)
+places zero (b ∷ bs) = (omega arith, zero-min _)
+places (suc k) (b ∷ bs) = elim (cases_Bool (eqb b 9)) [
+  | inl e ↦
+      let rest = places k bs in
+      let here = ap (passed (suc k)) (slice_split-cons_yes (λ x. eqb x 9) b bs e) ∙ sum_by-cons with_tab [] (take k (tab_parts bs)) in
+      let next = ap (λ n. 1 + field_place n bs) (cond-true (eqb b 9) k (suc k) e) in
+      (omega (arith, rest.0, here), omega (arith, rest.1, here, next))
+  | inr e ↦
+      let rest = places (suc k) bs in
+      let here = ap (passed (suc k)) (slice_split-cons_no (λ x. eqb x 9) b bs e) ∙ onto_passed k b (tab_parts bs) (omega (arith, length-slice_split (λ x. eqb x 9) bs)) in
+      let next = ap (λ n. 1 + field_place n bs) (cond-false (eqb b 9) k (suc k) e) in
+      (omega (arith, rest.0, here), omega (arith, rest.1, here, next))
+]

@@ -30,14 +30,11 @@ fn under(byte: u8) -> u8
 fn field_place(line: &[u8], field: usize) -> usize
     ensures { result ≡ field_place field line.now }
 {
-    let mut rest = line;
-    for _ in 0..field {
-        match rest.iter().position(|byte| *byte == b'\t') {
-            None => return line.len(),
-            Some(tab) => rest = &rest[tab + 1..],
-        }
-    }
-    line.len() - rest.len()
+    line.split(|byte| *byte == b'\t')
+        .take(field)
+        .map(|piece| piece.len() + 1)
+        .sum::<usize>()
+        .min(line.len())
 }
 
 // The place of a fault in its line: past the longest lawful beginning of its field, or the line's start where it has no

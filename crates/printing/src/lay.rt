@@ -6,7 +6,8 @@ use crate::style::Style;
 use model::source::Source;
 use std::alloc::{AllocError, Global};
 
-// A source to be laid out in a style, and where the text is made.
+// A source to be laid out in a style, and where the text is made. Each part is a text of its own, so that its contract says what it
+// is: of parts that write into one text, each would have to say what stood there before.
 #[derive(Clone, Copy)]
 pub(crate) struct Laid<'a, S, L> {
     heap: Global,

@@ -17,7 +17,8 @@ fn framed(heap: Global, states: usize, denominator: u32, lines: &str) -> Result<
     format!(in heap; "mdp\t{states}\t{denominator}\n{lines}end\n")
 }
 
-// One state of a source, as `show` lists it.
+// One state of a source, as `show` lists it. Here and below `heap` and `source` are two arguments: a function is called once with
+// them and makes the `Laid` of both that holds them, which a caller would otherwise have to know.
 pub fn state_text<S: Source>(heap: Global, source: &S, state: usize) -> Result<String, AllocError>
     ensures { IfOk result (λ s. string_bytes s ≡ laid_state listing state (state_of (S.Source.model source.now) state)) }
 {

@@ -32,7 +32,7 @@ impl From<FormulaFault> for JudgeFault {
 }
 
 impl FormulaFault {
-    // The number of the fault.
+    // The number of the fault, by a match: some faults carry a place, so the variants cannot be numbered.
     pub fn number(&self) -> u8
         ensures { result ≡ formula_fault_number self.now }
     {
@@ -59,7 +59,7 @@ impl FormulaFault {
 }
 
 impl JudgeFault {
-    // The number of the fault.
+    // The number of the fault, by a match: a formula's fault has that of its kind.
     pub fn number(&self) -> u8
         ensures { result ≡ judge_fault_number self.now }
     {

@@ -17,9 +17,9 @@ pub enum Kind {
 
 // One state formula of a formula that was read: its parts by the numbers of their records, its comparison if it is a
 // probability, its letter's number or its bound, its steps, and how many states it holds at and is undecided at. The
-// layout of a record is fixed: a kind, two parts, a comparison, a number, steps and two counts, 0 where unused; so the kind
-// stands beside them, and is no enum with the parts in its variants. A caller lends a slice of these, so a part is told by
-// its record's number and not by a box.
+// layout of a record is fixed: a kind, two parts, a comparison, a number, steps and two counts; so the kind stands beside
+// them, and is no enum with the parts in its variants. An unused comparison is none, and any other unused field is 0. A caller
+// lends a slice of these, so a part is told by its record's number and not by a box.
 #[derive(Clone, Copy, PartialEq, Eq, Debug)]
 pub struct Record {
     pub kind: Kind,

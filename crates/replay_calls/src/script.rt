@@ -31,7 +31,8 @@ impl<'a> Judgement<'a> {
     }
 }
 
-// Calls to be played, and beside them the same calls as they are wanted afterwards.
+// Calls to be played, and beside them the same calls as they are wanted afterwards: two lists and no list of pairs, since a
+// replay is lent the given calls alone.
 #[derive(Drop)]
 pub(crate) struct Script {
     pub(crate) heap: Global,
@@ -54,6 +55,15 @@ impl Script {
         self.given.push(given)?;
         self.wanted.push(wanted)?;
         Ok(())
+    }
+
+    // One more call, given with no answer and wanted with this one.
+    fn add<A, F: Fn(Option<A>) -> Call>(&mut self, answer: A, call: F) -> Result<(), AllocError>
+        requires { F.IsAlwaysCallable call }
+    {
+        let given = call(None);
+        let wanted = call(Some(answer));
+        self.push(given, wanted)
     }
 
     // A start with these marks and this aim.
@@ -91,17 +101,7 @@ impl Script {
         count: u64,
         answer: Result<(), TrialFault>,
     ) -> Result<(), AllocError> {
-        let wanted = Call::Advance {
-            count,
-            answer: Some(answer),
-        };
-        self.push(
-            Call::Advance {
-                count,
-                answer: None,
-            },
-            wanted,
-        )
+        self.add(answer, |answer| Call::Advance { count, answer })
     }
 
     // A call for ends, and what it is to answer.
@@ -110,17 +110,7 @@ impl Script {
         state: usize,
         answer: Result<(Part, Part, u64), TrialFault>,
     ) -> Result<(), AllocError> {
-        let wanted = Call::Ends {
-            state,
-            answer: Some(answer),
-        };
-        self.push(
-            Call::Ends {
-                state,
-                answer: None,
-            },
-            wanted,
-        )
+        self.add(answer, |answer| Call::Ends { state, answer })
     }
 
     // A call for a verdict, and what it is to answer.
@@ -131,19 +121,15 @@ impl Script {
         bound: u64,
         answer: Result<Verdict, TrialFault>,
     ) -> Result<(), AllocError> {
-        let given = Call::Verdict {
-            state,
-            comparison,
-            bound,
-            answer: None,
-        };
-        let wanted = Call::Verdict {
-            state,
-            comparison,
-            bound,
-            answer: Some(answer),
-        };
-        self.push(given, wanted)
+        self.add(
+            answer,
+            |answer| Call::Verdict {
+                state,
+                comparison,
+                bound,
+                answer,
+            },
+        )
     }
 
     // A judge with this text and these buffers, and what it is to be afterwards.

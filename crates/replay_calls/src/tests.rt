@@ -1,26 +1,29 @@
 use crate::script::{Judgement, Script};
 use layers::hold::Hold;
 use model::source::Source;
+use pairs::models::{THIRDS, table};
+use pairs::rule::Pairs;
 use records::comparison::Comparison;
 use records::fault::{FormulaFault, JudgeFault};
 use records::record::{Kind, Record};
 use replay::replay::replay;
 use ring::ring::Ring;
+use rounds::run::rounds;
 use rules::part::Part;
 use std::process::Abort;
 use std::test::Fail;
-use tables::tables::Tables;
 use trial::aim::Aim;
 use trial::fault::TrialFault;
 use trial::verdict::Verdict;
-
-// State 0 waits with 2 parts out of 3 and else goes to 1, which has the label a and stays.
-const THIRDS: &[u8] = b"mdp\t2\t3\ns\t-\nc\nb\t0\t2\nb\t1\t1\ns\ta\nc\nb\t1\t3\nend\n";
 
 const WHOLE: u32 = 1_000_000_000;
 
 // Undecided at state 0 of THIRDS, where the best adversary has one third: its ends lie on both sides of the bound.
 const THIRD: &[u8] = b"P<=333333333[trueU<=1a]";
+
+// Two negations over an "and" of two chains with 31 state formulas each: 65 in all.
+const FORMULAS_65: &[u8] =
+    b"!!((a&(a&(a&(a&(a&(a&(a&(a&(a&(a&(a&(a&(a&(a&(a&a)))))))))))))))&(a&(a&(a&(a&(a&(a&(a&(a&(a&(a&(a&(a&(a&(a&(a&a))))))))))))))))";
 
 // What the lent records are before a judge.
 const BEFORE: Record = Record {
@@ -93,8 +96,7 @@ fn play<S: Source>(rt: &impl Abort, source: &S, mut script: Script) {
 
 // Plays the calls on THIRDS.
 fn play_on_thirds(rt: &impl Abort, script: Script) -> Result<(), Fail> {
-    let mut source = Tables::new(script.heap)?;
-    source.load(THIRDS)?;
+    let source = table(script.heap, THIRDS)?;
     play(rt, &source, script);
     Ok(())
 }
@@ -216,9 +218,62 @@ fn judges_accepted_and_refused(rt: HostRuntime) -> Result<(), Fail> {
     play_on_thirds(&rt, script)
 }
 
-// A ring of three states, on with 4 parts out of 10, with state 2 held below and state 0 above: a source of one's own under two layers.
+// Refused for its text, a judge leaves every buffer, however much is lent: 66 records are no help to 65 formulas.
 #[test]
-fn ring_under_two_layers(rt: HostRuntime) -> Result<(), Fail> {
+fn judges_refused_by_their_texts(rt: HostRuntime) -> Result<(), Fail> {
+    let mut script = Script::new(rt.alloc());
+    for (text, fault) in [
+        (&b"P>1000000001[Xa]"[..], FormulaFault::Number { place: 2 }),
+        (&b"P>0[aU<=10001a]"[..], FormulaFault::Number { place: 8 }),
+        (
+            &b"!!!!!!!!!!!!!!!!!!!!!!!!!!!!!!!!a"[..],
+            FormulaFault::Depth,
+        ),
+        (FORMULAS_65, FormulaFault::Records),
+        (&b"P>0[XP>5[aUa]]"[..], FormulaFault::Until { place: 5 }),
+    ] {
+        let given = Judgement {
+            text,
+            records: &[BEFORE; 66],
+            scratch: &[9; 140],
+            out: &[9; 2],
+            answer: None,
+        };
+        let wanted = Judgement {
+            answer: Some(Err(JudgeFault::Formula(fault))),
+            ..given
+        };
+        script.judge(given, wanted)?;
+    }
+    play_on_thirds(&rt, script)
+}
+
+// Numbers that no text of calls can write: each is refused by its own question, and the query stands as it stood.
+#[test]
+fn largest_numbers(rt: HostRuntime) -> Result<(), Fail> {
+    let mut script = Script::new(rt.alloc());
+    script.advance(u64::MAX, Err(TrialFault::NoQuery))?;
+    script.ends(usize::MAX, Err(TrialFault::NoQuery))?;
+    script.start(&[1, 1], &[0, 255], Aim::Best, Err(TrialFault::Marks))?;
+    script.start(&[1, 1], &[0, 1], Aim::Best, Ok(()))?;
+    script.advance(1, Ok(()))?;
+    script.advance(u64::MAX, Err(TrialFault::Rounds))?;
+    script.ends(usize::MAX, Err(TrialFault::State))?;
+    script.verdict(
+        usize::MAX,
+        Comparison::Above,
+        u64::MAX,
+        Err(TrialFault::State),
+    )?;
+    script.verdict(1, Comparison::Above, u64::MAX, Err(TrialFault::Bound))?;
+    script.verdict(1, Comparison::Above, u64::from(WHOLE), Err(TrialFault::Aim))?;
+    script.verdict(1, Comparison::AtMost, u64::from(WHOLE), Ok(Verdict::Yes))?;
+    script.ends(0, Ok(told(333_333_333, 333_333_334, 1)?))?;
+    play_on_thirds(&rt, script)
+}
+
+// A ring of three states, on with 4 parts out of 10, with state 2 held below and state 0 above: a source of one's own under two layers.
+fn held_ring() -> Result<Hold<Hold<Ring>>, Fail> {
     let mut lower = Hold::over(Ring {
         states: 3,
         denominator: 10,
@@ -227,6 +282,23 @@ fn ring_under_two_layers(rt: HostRuntime) -> Result<(), Fail> {
     lower.hold(2)?;
     let mut pile = Hold::over(lower);
     pile.hold(0)?;
+    Ok(pile)
+}
+
+// Rounds of a rule of one's own over it: state 1 gets the lesser pair of its own and of state 2, and the held states keep theirs.
+#[test]
+fn pairs_under_two_layers(rt: HostRuntime) -> Result<(), Fail> {
+    let mut values = [(3, 0), (2, 1), (1, 5)];
+    let mut spare = [(9, 9); 3];
+    rounds(&held_ring()?, &Pairs, &mut values, &mut spare, 1)?;
+    assert_eq!(rt; values, [(3, 0), (1, 5), (1, 5)]);
+    assert_eq!(rt; spare, [(3, 0), (2, 1), (1, 5)]);
+    Ok(())
+}
+
+#[test]
+fn ring_under_two_layers(rt: HostRuntime) -> Result<(), Fail> {
+    let pile = held_ring()?;
     let mut script = Script::new(rt.alloc());
     script.start(&[1, 1, 1], &[0, 0, 1], Aim::Worst, Ok(()))?;
     script.advance(2, Ok(()))?;

@@ -4,21 +4,23 @@ ghost use Rattle.theory.specs.Rounds.{mixed as mixed_row, round as round_of};
 ghost use Rattle.rules.specs.Values.{told};
 
 use model::branch::Branch;
+use model::limits::STATES;
 use model::source::Source;
+use rules::denominator::Denominator;
 use rules::rule::Rule;
 
-// No row has more branches than there can be states.
-pub(crate) const ROOM: usize = 512;
+// A buffer for the branches of one row, for a source that does not lend its rows. No row has more branches than there can be
+// states. The room is fixed, since a round may want no memory.
+pub(crate) type Buffer = [Branch; STATES];
 
-// A buffer for the branches of one row, for a source that does not lend its rows.
-pub(crate) type Buffer = [Branch; ROOM];
-
-// What a round reads: the model, the value rule, and a value of each state.
+// What a round reads: the model, its denominator, the value rule, and a value of each state.
 #[derive(Drop)]
 pub(crate) struct Round<'a, S: Source, R: Rule> {
     pub(crate) source: &'a S,
+    pub(crate) denominator: Denominator,
     pub(crate) rule: &'a R,
     pub(crate) values: &'a [R::Value],
+    ghost units: { denominator.value ≡ (S.Source.model source.now).denominator },
     ghost long: { length values.now ≡ (S.Source.model source.now).states },
 }
 
@@ -29,7 +31,7 @@ impl<'a, S: Source, R: Rule> Round<'a, S, R> {
         ensures { (d : R.Value) → result ≡ mixed_row (R.Rule.mixed self.now.rule.now) (S.Source.model self.now.source.now) (told self.now.values.now d) (row (S.Source.model self.now.source.now) state choice) }
     {
         let row = self.source.lend_row(state, choice, buffer);
-        self.rule.mix(self.source.denominator(), row, self.values)
+        self.rule.mix(&self.denominator, row, self.values)
     }
 
     // The most preferred mix among the choices of a state.

@@ -2,9 +2,9 @@ ghost use Rattle.rounds.specs.Runs.{Ran};
 
 use crate::fault::RoundsFault;
 use crate::lengths::check_lengths;
-use crate::round::ROOM;
 use crate::step::one_round;
 use model::branch::Branch;
+use model::limits::STATES;
 use model::source::Source;
 use rules::rule::Rule;
 
@@ -26,7 +26,7 @@ pub fn rounds<S: Source, R: Rule>(
     if count > MOST_ROUNDS {
         return Err(RoundsFault::Count);
     }
-    let mut buffer = [Branch::default(); ROOM];
+    let mut buffer = [Branch::default(); STATES];
     for _ in 0..count {
         one_round(source, rule, values, spare, &mut buffer);
     }

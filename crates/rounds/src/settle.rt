@@ -2,9 +2,9 @@ ghost use Rattle.rounds.specs.Settles.{Settling};
 
 use crate::fault::RoundsFault;
 use crate::lengths::check_lengths;
-use crate::round::ROOM;
 use crate::step::one_round;
 use model::branch::Branch;
+use model::limits::STATES;
 use model::source::Source;
 use rules::marks::Marks;
 
@@ -22,7 +22,7 @@ pub fn settle<S: Source>(
 {
     let states = source.states();
     check_lengths(states, marks.len(), spare.len())?;
-    let mut buffer = [Branch::default(); ROOM];
+    let mut buffer = [Branch::default(); STATES];
     let mut done = 0;
     // It is a rule of the project that the fixed point of marks is a `loop` that yields the round reached by `break`.
     let reached = loop {

@@ -5,6 +5,7 @@ ghost use Rattle.rounds.specs.Runs.{listed};
 
 use crate::round::{Buffer, Round};
 use model::source::Source;
+use rules::denominator::Denominator;
 use rules::rule::Rule;
 
 // One round: `spare` gets the values as they are, and each state its most preferred mix of them.
@@ -25,6 +26,7 @@ pub(crate) fn one_round<S: Source, R: Rule>(
     spare.copy_from_slice(values);
     let round = Round {
         source,
+        denominator: Denominator::of(source),
         rule,
         values: spare,
     };

@@ -19,6 +19,7 @@ impl Refusal for RequestFault {
 
     ghost words = { request_words };
 
+    // By a match: the cases carry faults of other crates, whose numbers these are.
     fn number(&self) -> u8 {
         match self {
             RequestFault::Part(fault) => fault.number(),

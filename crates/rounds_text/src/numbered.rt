@@ -4,7 +4,8 @@ ghost use Rattle.std.specs.Prelude.{◌≡◌};
 use rules::fault::PartFault;
 use rules::part::Part;
 
-// A value of a rule that is given and printed as a number.
+// A value of a rule that is given and printed as a number. The functions stand in a trait of their own and not in `TryFrom` and
+// `From`, which no crate may write for marks, as for a `bool`.
 pub trait Numbered: Copy {
     // which numbers stand for values, and the number of each value
     ghost numbering: { Numbering Self };

@@ -7,7 +7,8 @@ use crate::numbered::Numbered;
 use rules::fault::PartFault;
 use std::alloc::{AllocError, Global};
 
-// The values that numbers stand for, or why one of them stands for none.
+// The values that numbers stand for, or why one of them stands for none. By a loop: this and a want of memory each end it with an
+// answer of its own, and `try_collect` has one error for both.
 pub(crate) fn values<V: Numbered>(
     heap: Global,
     numbers: &[u64],

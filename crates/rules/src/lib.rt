@@ -2,6 +2,7 @@
 // It may use the crates model and theory.
 #![tactic(auto)]
 
+pub mod denominator;
 pub mod fault;
 pub mod marks;
 mod order;

@@ -2,6 +2,7 @@ ghost use Rattle.theory.specs.Mixes.{mix_marks};
 ghost use Rattle.rules.specs.Marks.{prefers_mark};
 ghost use Rattle.rules.specs.MarkLaws.{marks_lawful};
 
+use crate::denominator::Denominator;
 use crate::preference::Preference;
 use crate::rule::Rule;
 use model::branch::Branch;
@@ -25,7 +26,7 @@ impl Rule for Marks {
         self.preference.prefers(a, b)
     }
 
-    fn mix(&self, _denominator: u32, row: &[Branch], values: &[bool]) -> bool {
+    fn mix(&self, _denominator: &Denominator, row: &[Branch], values: &[bool]) -> bool {
         row.iter().any(|branch| values[branch.target])
     }
 }

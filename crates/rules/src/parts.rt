@@ -1,6 +1,7 @@
 ghost use Rattle.rules.specs.Parts.{in_parts, mix_rounded, prefers_part};
 ghost use Rattle.rules.specs.PartsLemmas.{parts_lawful};
 
+use crate::denominator::Denominator;
 use crate::part::Part;
 use crate::preference::Preference;
 use crate::rounding::Rounding;
@@ -28,11 +29,11 @@ impl Rule for Parts {
         self.preference.prefers(a, b)
     }
 
-    fn mix(&self, denominator: u32, row: &[Branch], values: &[Part]) -> Part {
+    fn mix(&self, denominator: &Denominator, row: &[Branch], values: &[Part]) -> Part {
         let sum = weighted_sum(denominator, row, values);
         match self.rounding {
             Rounding::Down => quotient(sum, denominator),
-            Rounding::Up => quotient(sum + (denominator as u64 - 1), denominator),
+            Rounding::Up => quotient(sum + (denominator.value as u64 - 1), denominator),
         }
     }
 }

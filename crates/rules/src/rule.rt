@@ -1,8 +1,9 @@
-ghost use Rattle.std.specs.Prelude.{◌≡◌, ℕ, ◌≤◌, Bool, List, length};
+ghost use Rattle.std.specs.Prelude.{◌≡◌, ℕ, Bool, List, length};
 ghost use Rattle.model.specs.Mdp.{LawfulRow};
 ghost use Rattle.theory.specs.Rules.{RuleLaws, valued};
 ghost use Rattle.rules.specs.Values.{told};
 
+use crate::denominator::Denominator;
 use model::branch::Branch;
 
 // A value rule: values, a preference between them, and a mix of a row's weights and values into one value. It never
@@ -22,12 +23,10 @@ pub trait Rule {
         ensures { result ≡ preferred self.now a b };
 
     // The mix of a lawful row, given a value for each state. Row and values are plain slices, so that a rule of one's own
-    // needs no type of ours for them.
-    fn mix(&self, denominator: u32, row: &[Branch], values: &[Self::Value]) -> Self::Value
-        requires some_unit { 1 ≤ denominator }
-        requires few_units { denominator ≤ 1000000 }
-        requires lawful { LawfulRow (length values.now) denominator row.now }
-        ensures { (d : Self.Value) → result ≡ mixed self.now denominator (valued (told values.now d) row.now) };
+    // needs no type of ours for them; a denominator that has its reciprocal is what makes a rule that divides fast.
+    fn mix(&self, denominator: &Denominator, row: &[Branch], values: &[Self::Value]) -> Self::Value
+        requires lawful { LawfulRow (length values.now) denominator.now.value row.now }
+        ensures { (d : Self.Value) → result ≡ mixed self.now denominator.now.value (valued (told values.now d) row.now) };
 
     // the preference is a total order, and a value at least as preferred in a lawful row never makes the mix less preferred
     ghost lawful: { (x : Self) → RuleLaws (preferred x) (mixed x) };

@@ -6,15 +6,15 @@ ghost use Rattle.rules.specs.Values.{told, carried};
 ghost use Rattle.rules.specs.Parts.{units_of};
 ghost use Rattle.rules.specs.declared.part.Part.{Part as PartValue};
 
+use crate::denominator::Denominator;
 use crate::part::Part;
 use model::branch::Branch;
 
 // The sum of weight times value over a lawful row: at most the denominator times the whole.
-pub(crate) fn weighted_sum(denominator: u32, row: &[Branch], values: &[Part]) -> u64
-    requires few_units { denominator ≤ 1000000 }
-    requires lawful { LawfulRow (length values.now) denominator row.now }
+pub(crate) fn weighted_sum(denominator: &Denominator, row: &[Branch], values: &[Part]) -> u64
+    requires lawful { LawfulRow (length values.now) denominator.now.value row.now }
     ensures sum { (d : PartValue) → result ≡ sum_of (carried units_of (valued (told values.now d) row.now)) }
-    ensures bound { result ≤ whole * denominator }
+    ensures bound { result ≤ whole * denominator.now.value }
 {
     let mut sum = 0;
     // A loop over the row's branches, by a rule of the project; of a chain that maps and sums them, what the closure gives
@@ -26,12 +26,11 @@ pub(crate) fn weighted_sum(denominator: u32, row: &[Branch], values: &[Part]) ->
 }
 
 // The part that a sum is of the denominator, rounded down.
-pub(crate) fn quotient(sum: u64, denominator: u32) -> Part
-    requires some_unit { 1 ≤ denominator }
-    requires small { sum < (whole + 1) * denominator }
-    ensures { result.units ≡ sum / denominator }
+pub(crate) fn quotient(sum: u64, denominator: &Denominator) -> Part
+    requires { sum < (whole + 1) * denominator.now.value }
+    ensures { result.units ≡ sum / denominator.now.value }
 {
     Part {
-        units: (sum / denominator as u64) as u32,
+        units: denominator.quotient(sum) as u32,
     }
 }

@@ -31,7 +31,7 @@ impl From<NoRoom> for CopyFault {
 }
 
 impl CopyFault {
-    // The number of the refusal.
+    // The number of the refusal, by a match: each fault has that of its kind.
     pub fn number(&self) -> u8
         ensures { result ≡ copy_number self.now }
     {

@@ -1,11 +1,11 @@
 -- Which beginning of a field is a number of at most so many digits.
-use Rattle.std.proofs.Common.{◌≡◌, ℕ, suc, ◌+◌, ◌^◌, ◌<◌, ◌≤◌, min, true, false, eqb, List, [], ◌∷◌, length, get_or, take, Ok, Result, sym, refl, ap, ◌∙◌, inl, inr, ⊎_elim, arith}
+use Rattle.std.proofs.Common.{◌≡◌, ℕ, zero, suc, ◌+◌, ◌^◌, ◌<◌, ◌≤◌, min, true, false, eqb, List, [], ◌∷◌, length, get_or, take, Ok, Result, decimal, sym, refl, ap, ◌∙◌, inl, inr, ⊎_elim, arith}
 use Rattle.std.specs.Str.Parse.{digits_value, AllDigits, ParsesUnsigned}
 use Rattle.std.specs.Int.{IsInRange}
 use Rattle.std.specs.Char.{is_ascii_digit}
 use Rattle.std.specs.List.{prefix_len, starts_with}
 use Rattle.std.specs.Str.{IsUtf8, all_ascii_digits}
-use Rattle.std.proofs.lemmas.Fmt.{IsAscii-from_digits}
+use Rattle.std.proofs.lemmas.Fmt.{IsAscii-from_digits, decimal-digits_value, digits_decimal, decimal_nonempty, decimal_digit, length-decimal-le, first_decimal}
 use Rattle.std.proofs.lemmas.Str.{IsUtf8-from_ascii}
 use Rattle.std.proofs.lemmas.List.{length-take, length-take-le, get_or-take, take-take}
 use Rattle.std.proofs.lemmas.List.Sums.{prefix_len-le-length, prefix_len_stops}
@@ -113,3 +113,42 @@ number_text most w n = IsUtf8-from_ascii w (IsAscii-from_digits w n.digits)
 pub number_parsed : {E : Type 0} (most bits : ℕ) (w v : List ℕ) (r : Result ℕ E) → 10 ^ most ≤ 2 ^ bits → v ≡ w → ParsesUnsigned bits 10 v r → Number most w → r ≡ Ok (amount w)
 number_parsed most bits w v r fits e p n =
     parse_gives decimals bits w r (rw e at p) (decimals.from w n.digits) n.some (omega (arith, fits, digits_value_short decimals w most (decimals.from w n.digits) n.few))
+
+-- a beginning of digits is digits
+digits_front : (k : ℕ) (w : List ℕ) → AllDigits 10 w → AllDigits 10 (take k w)
+digits_front zero w d = tt
+digits_front (suc k) [] d = tt
+digits_front (suc k) (c ∷ w) d = (d.0, digits_front k w d.1)
+
+-- a beginning of a number is a number
+pub numeral_front : (most k : ℕ) (w : List ℕ) → 0 < k → k ≤ length w → numeral most w ≡ true → numeral most (take k w) ≡ true
+numeral_front most k w some l t =
+    let n = number_from most w t in
+    let long = length-take-le k w l in
+    number_to most (take k w) (record {
+      digits = digits_front k w n.digits;
+      some = omega (arith, long);
+      few = omega (arith, long, n.few);
+      lead = λ z. let one = n.lead (sym (get_or-take k w 0 0 some) ∙ z) in omega (arith, long, one);
+    })
+
+-- a number is small
+pub numeral_small : (most : ℕ) (w : List ℕ) → numeral most w ≡ true → amount w < 10 ^ most
+numeral_small most w t = let n = number_from most w t in digits_value_short decimals w most (decimals.from w n.digits) n.few
+
+-- a number that fits in a word is what is written of its amount
+pub decimal_amount : (most : ℕ) (w : List ℕ) → 10 ^ most ≤ 2 ^ 64 → numeral most w ≡ true → decimal (amount w) ≡ w
+decimal_amount most w fits t =
+    let n = number_from most w t in
+    decimal-digits_value decimals w (decimals.from w n.digits) n.some n.lead (omega (arith, fits, numeral_small most w t))
+
+-- what is written of an amount that fits is a number
+pub numeral_decimal : (most n : ℕ) → 0 < most → 10 ^ most ≤ 2 ^ 64 → n < 10 ^ most → numeral most (decimal n) ≡ true
+numeral_decimal most n some fits h =
+    let big : n < 2 ^ 64 = omega (arith, fits, h) in
+    number_to most (decimal n) (record {
+      digits = decimals.to (decimal n) (digits_decimal decimals n big);
+      some = decimal_nonempty n big;
+      few = length-decimal-le most n some h big;
+      lead = λ z. ⊎_elim (λ one. ap length (decimal_digit n one)) (λ more. let first : 48 < get_or (decimal n) 0 0 = first_decimal n (omega (arith, more)) big in omega (arith, z, first)) (cases_lt n 10);
+    })

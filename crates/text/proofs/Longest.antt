@@ -21,15 +21,39 @@ module _ (test : List ℕ → Bool) (xs : List ℕ) where
   pub longest_is : (n : ℕ) → n ≤ length xs → (n ≡ 0) ⊎ (test (take n xs) ≡ true) → ((k : ℕ) → n < k → k ≤ length xs → test (take k xs) ≡ false) → longest test xs ≡ n
   longest_is n l passes fails = within_is n (length xs) l passes fails
 
-  -- the longest beginning that passes does pass, or there is none
+  -- none of at most m elements that passes is longer
+  within_most : (k m : ℕ) → k ≤ m → test (take k xs) ≡ true → k ≤ longest_within test xs m
+  within_most k zero l t = l
+  within_most k (suc m) l t =
+      cond_both (test (take (suc m) xs)) _ _ (λ z. k ≤ z) (λ _. l)
+      (λ f. within_most k m (⊎_elim (λ h. omega (arith, h)) (λ h. let e : k ≡ suc m = omega (arith, h) in let p = ap (λ z. test (take z xs)) e in absurd (cc)) (cases_lt k (suc m))) t)
+
+  -- none that passes is longer
+  pub longest_most : (k : ℕ) → k ≤ length xs → test (take k xs) ≡ true → k ≤ longest test xs
+  longest_most k l t = within_most k (length xs) l t
+
+  -- the longest beginning of at most m elements that passes does pass, or there is none
   within_passes : (m : ℕ) → (longest_within test xs m ≡ 0) ⊎ (test (take (longest_within test xs m) xs) ≡ true)
   within_passes zero = inl refl
   within_passes (suc m) = cond_both (test (take (suc m) xs)) _ _ (λ z. (z ≡ 0) ⊎ (test (take z xs) ≡ true)) (λ t. inr t) (λ _. within_passes m)
 
+  -- the longest beginning that passes does pass, or there is none
+  pub longest_passes : (longest test xs ≡ 0) ⊎ (test (take (longest test xs) xs) ≡ true)
+  longest_passes = within_passes (length xs)
+
+  -- it has no more elements than so many
+  within_few : (m : ℕ) → longest_within test xs m ≤ m
+  within_few zero = omega arith
+  within_few (suc m) = cond_both (test (take (suc m) xs)) _ _ (λ z. z ≤ suc m) (λ _. omega arith) (λ _. omega (arith, within_few m))
+
+  -- it is within the list
+  pub longest_within_list : longest test xs ≤ length xs
+  longest_within_list = within_few (length xs)
+
   -- the whole passes, if the longest beginning that does is all of it
   pub whole_passes : 0 < longest test xs → length xs ≤ longest test xs → test xs ≡ true
   whole_passes some all =
-      ⊎_elim (λ z. absurd (omega (arith, z))) (λ t. ap test (sym (take_all (longest test xs) xs all)) ∙ t) (within_passes (length xs))
+      ⊎_elim (λ z. absurd (omega (arith, z))) (λ t. ap test (sym (take_all (longest test xs) xs all)) ∙ t) longest_passes
 
 -- a field of which the check finds no place where it is at fault is lawful
 pub checked : (lawful : Bool) (r : Result (Unit {0}) FieldPlace) (at : FieldPlace) → r ≡ cond lawful (Ok tt) (Err at) → r ≡ Ok tt → lawful ≡ true

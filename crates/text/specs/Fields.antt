@@ -3,6 +3,7 @@ use Rattle.std.specs.Prelude.{◌≡◌, ℕ, zero, suc, ◌+◌, Bool, true, fa
 use Rattle.std.specs.Str.Parse.{digits_value}
 use Rattle.std.specs.Str.{all_ascii_digits}
 use Rattle.std.specs.List.{list_any}
+use Rattle.std.specs.Option.{option_map}
 use Rattle.model.specs.declared.labels.Labels.{Labels}
 use Rattle.text.specs.declared.fault.FieldPlace.{FieldPlace}
 use Rattle.text.specs.declared.fault.FieldFault.{FieldFault}
@@ -85,6 +86,10 @@ number_read w k = cond (lawful_number w) (Ok (amount w)) (Err (fault.Number (unl
 -- what reading a number of at most ten digits answers
 abbrev pub long_number_read : List ℕ → Option ℕ
 long_number_read w = cond (numeral 10 w) (Some (amount w)) None
+
+-- what reading the number of at most ten digits that a text begins with answers: the number of its longest such beginning, and its length
+abbrev pub leading_number_read : List ℕ → Option (ℕ × ℕ)
+leading_number_read w = let n = longest (numeral 10) w in option_map (λ v. (v, n)) (long_number_read (take n w))
 
 -- what reading a set of labels, field k of its line, answers
 abbrev pub LabelsRead : List ℕ → ℕ → Result Labels FieldFault → Type 0

@@ -1,7 +1,8 @@
 ghost use Rattle.std.specs.Prelude.{◌≡◌, length};
 ghost use Rattle.text.specs.Cuts.{FirstPiece, pieces, piece, fields, field};
 
-// How many bytes come before the first `sep`: all of them where there is none.
+// How many bytes come before the first `sep`: all of them where there is none. This public function has no caller here; it stays
+// for those who have one. Here and below, bytes and what parts them are two arguments, as `split` takes them.
 pub fn piece_length(bytes: &[u8], sep: u8) -> usize
     ensures { FirstPiece bytes.now sep result }
 {

@@ -72,7 +72,7 @@ impl From<Numbered> for FileFault {
 }
 
 impl FieldFault {
-    // The number of the fault.
+    // The number of the fault, by a match: each fault carries its place, so the variants cannot be numbered.
     pub fn number(&self) -> u8
         ensures { result ≡ field_fault_number self.now }
     {

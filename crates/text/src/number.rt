@@ -1,11 +1,12 @@
 ghost use Rattle.std.specs.Prelude.{◌≡◌, ◌≤◌};
-ghost use Rattle.text.specs.Fields.{numeral, longest, number_read, long_number_read};
+ghost use Rattle.text.specs.Fields.{numeral, longest, number_read, long_number_read, leading_number_read};
 
 use crate::fault::FieldFault;
 use crate::lawful::check_lawful;
 use std::str;
 
-// The number that field `index` of a line writes: 0, or one to seven digits that do not start with 0.
+// The number that field `index` of a line writes: 0, or one to seven digits that do not start with 0. A struct of a field and
+// its index would be made at each call and taken apart in it: a number of a ladder's name is asked for here too.
 pub fn number(field: &[u8], index: usize) -> Result<u32, FieldFault>
     ensures { result ≡ number_read field.now index }
 {
@@ -24,6 +25,14 @@ pub fn long_number(word: &[u8]) -> Option<u64>
     // Digits are text, and ten of them fit.
     let digits = str::from_utf8(word).unwrap();
     Some(digits.parse().unwrap())
+}
+
+// The number of at most ten digits that a text begins with, as far as it goes, and its length; none where it begins with none.
+pub fn leading_number(text: &[u8]) -> Option<(u64, usize)>
+    ensures { result ≡ leading_number_read text.now }
+{
+    let front = &text[..number_length(text, 10)];
+    Some((long_number(front)?, front.len()))
 }
 
 // The length of the longest beginning that is a number of at most so many digits; 0 where none is.

@@ -1,7 +1,7 @@
 use crate::cut::{field, field_count};
 use crate::fault::{FieldFault, FieldPlace};
 use crate::labels::labels;
-use crate::number::{long_number, number};
+use crate::number::{leading_number, long_number, number};
 
 // What is read of a set of labels, with the flags in place of the set.
 fn flags(field: &[u8]) -> Result<[bool; 16], FieldFault> {
@@ -46,6 +46,15 @@ fn long_numbers(rt: HostRuntime) {
     assert_eq!(rt; long_number(b"+1"), None);
     assert_eq!(rt; long_number(b"1,"), None);
     assert_eq!(rt; long_number(b""), None);
+}
+
+#[test]
+fn leading_numbers(rt: HostRuntime) {
+    assert_eq!(rt; leading_number(b"20b]"), Some((20, 2)));
+    assert_eq!(rt; leading_number(b"08"), Some((0, 1)));
+    assert_eq!(rt; leading_number(b"12345678901"), Some((1_234_567_890, 10)));
+    assert_eq!(rt; leading_number(b"a1"), None);
+    assert_eq!(rt; leading_number(b""), None);
 }
 
 #[test]

@@ -1,12 +1,11 @@
 -- What is written of a number and of a set of labels is lawful, visible, and read back.
-use Rattle.std.proofs.Common.{◌≡◌, ℕ, ◌+◌, ◌^◌, ◌<◌, ◌≤◌, Bool, true, false, not, ◌||◌, eqb, leb, List, [], ◌∷◌, length, get_or, decimal, sym, refl, ap, ◌∙◌, ap₂, ⊎_elim, arith}
+use Rattle.std.proofs.Common.{◌≡◌, ℕ, ◌+◌, ◌^◌, ◌<◌, ◌≤◌, Bool, true, false, not, eqb, leb, List, [], ◌∷◌, length, decimal, sym, refl, ap, ◌∙◌, ap₂, arith}
 use Rattle.std.specs.Str.Parse.{AllDigits}
-use Rattle.std.proofs.lemmas.Fmt.{decimal_is_IsNumeral, digits_decimal, decimal_nonempty, decimal_digit, length-decimal-le, first_decimal}
+use Rattle.std.proofs.lemmas.Fmt.{decimal_is_IsNumeral}
 use Rattle.std.proofs.lemmas.Str.Parse.{digit_from_value}
-use Rattle.std.proofs.lemmas.Bool.{leb-true, eq-eqb, ne_eqb, and_parts, and_from, or_left, or_right, or_from, not_from_false, cases_lt}
+use Rattle.std.proofs.lemmas.Bool.{leb-true, eq-eqb, ne_eqb, and_parts, and_from, or_left, or_right, or_from}
 use Rattle.model.specs.Mdp.{Each}
-use Rattle.text.specs.Fields.{amount, between, lawful_number, ascending, lawful_labels, among, letters_from, or_else, dash, labels_text, flags_from, labels_of}
-use Rattle.text.proofs.Digits.{decimals}
+use Rattle.text.specs.Fields.{amount, between, ascending, lawful_labels, among, letters_from, or_else, dash, labels_text, flags_from, labels_of}
 pub use Rattle.text.proofs.Ranges.{between_from}
 use Rattle.text_laws.proofs.SoundFields.{flags_below}
 
@@ -26,21 +25,6 @@ visible_digits (c ∷ cs) h = (omega (arith, digit_from_value c h.0), visible_di
 -- what is written of a number is visible
 pub visible_decimal : (n : ℕ) → n < 10 ^ 7 → Each Visible (decimal n)
 visible_decimal n h = visible_digits (decimal n) (decimal_is_IsNumeral n (omega arith)).0.1
-
--- a number is one digit, or does not start with 0
-no_leading_zero : (n : ℕ) → n < 10 ^ 7 → (eqb (length (decimal n)) 1 || not (eqb (get_or (decimal n) 0 0) 48)) ≡ true
-no_leading_zero n h =
-    ⊎_elim
-    (λ one. or_left _ _ (eq-eqb (length (decimal n)) 1 (ap length (decimal_digit n one))))
-    (λ more. or_right _ _ (not_from_false _ (ne_eqb (get_or (decimal n) 0 0) 48 (let first : 48 < get_or (decimal n) 0 0 = first_decimal n (omega arith) (omega arith) in omega arith))))
-    (cases_lt n 10)
-
--- a number of seven digits at the most is lawful
-pub lawful_decimal : (n : ℕ) → n < 10 ^ 7 → lawful_number (decimal n) ≡ true
-lawful_decimal n h =
-    let some : 1 ≤ length (decimal n) = decimal_nonempty n (omega arith) in
-    let few : length (decimal n) ≤ 7 = length-decimal-le 7 n (omega arith) h (omega arith) in
-    and_from _ _ (digits_decimal decimals n (omega arith)) (and_from _ _ (between_from 1 7 (length (decimal n)) some few) (no_leading_zero n h))
 
 -- a letter before the first is not among the letters of the flags
 among_below : (x l : ℕ) (flags : List Bool) → x < l → among x (letters_from l flags) ≡ false

@@ -12,9 +12,10 @@ use Rattle.text.specs.Texts.{header_line, state_line, choice_line, branch_line, 
 use Rattle.text.specs.Questions.{number, states_given, denominator_given, count}
 use Rattle.text.specs.Refusals.{lines_refusal}
 use Rattle.text_laws.proofs.States.{LawfulState, lawful_states, Small}
-use Rattle.text_laws.proofs.CompleteFields.{amount_decimal, lawful_decimal, lawful_text, between_from}
+use Rattle.text_laws.proofs.CompleteFields.{amount_decimal, lawful_text, between_from}
 use Rattle.text_laws.proofs.CompleteFits.{Fits, Passes, passes_more}
 use Rattle.text_laws.proofs.CompletePlaces.{Room, room_more, Open, open_row, open_more, Ready, Ended, ready, row_ended}
+use Rattle.text.proofs.Digits.{numeral_decimal}
 
 -- the lines pass at the end of each row that leaves so much to come
 abbrev Next : ℕ → ℕ → ℕ → ℕ → ℕ → List Line → Type 0
@@ -30,8 +31,8 @@ branch_fits {before} x room o small above under some most =
     record {
       word = o.follows;
       fields = refl;
-      first_number = lawful_decimal x.target small.target;
-      second_number = lawful_decimal x.weight small.weight;
+      first_number = numeral_decimal 7 x.target (omega arith) (omega arith) small.target;
+      second_number = numeral_decimal 7 x.weight (omega arith) (omega arith) small.weight;
       range = and_from _ _ in_range fair;
       labels = refl;
       order = o.above (number 1 (branch_line x)) (omega arith);
@@ -104,8 +105,8 @@ header_fits n d some_state few_states some_unit few_units =
     record {
       word = refl;
       fields = refl;
-      first_number = lawful_decimal n (omega arith);
-      second_number = lawful_decimal d (omega arith);
+      first_number = numeral_decimal 7 n (omega arith) (omega arith) (omega arith);
+      second_number = numeral_decimal 7 d (omega arith) (omega arith) (omega arith);
       range = and_from _ _ (and_from _ _ states units) refl;
       labels = refl;
       order = refl;

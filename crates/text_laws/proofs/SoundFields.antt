@@ -1,15 +1,11 @@
 -- Lawful fields are what is written of what they say: words, numbers and labels.
-use Rattle.std.proofs.Common.{◌≡◌, ℕ, zero, suc, ◌+◌, ◌^◌, ◌<◌, Bool, true, false, cond, ◌&&◌, ◌||◌, eqb, leb, ◌⊎◌, List, [], ◌∷◌, length, get_or, Some, decimal, Option, sym, refl, ap, ◌∙◌, ap₂, inl, inr, ⊎_elim, arith}
-use Rattle.std.specs.Str.{all_ascii_digits}
+use Rattle.std.proofs.Common.{◌≡◌, ℕ, zero, suc, ◌+◌, ◌<◌, Bool, true, false, cond, ◌&&◌, ◌||◌, eqb, leb, ◌⊎◌, List, [], ◌∷◌, length, Some, Option, sym, refl, ap, ◌∙◌, ap₂, inl, inr, ⊎_elim, arith}
 use Rattle.std.proofs.lemmas.List.{nil_from_length}
-use Rattle.std.proofs.lemmas.Fmt.{decimal-digits_value}
-use Rattle.std.proofs.lemmas.Str.Parse.{digits_value_short}
-use Rattle.std.proofs.lemmas.Bool.{and_parts, or_cases, both_ways, not-true, eqb-true, eqb-false, ne_eqb, le-leb, cond-true, cond-false, cases_Bool, and_from, or_from}
+use Rattle.std.proofs.lemmas.Bool.{and_parts, or_cases, both_ways, eqb-true, eqb-false, ne_eqb, le-leb, cond-true, cond-false, cases_Bool, and_from, or_from}
 use Rattle.text.specs.declared.word.Word.{Word}
 use Rattle.text.specs.declared.word.Word.TheVariants.{Mdp, State, Choice, Branch, End}
-use Rattle.text.specs.Fields.{between, lawful_number, amount, ascending, dash, lawful_labels, among, letters_from, or_else, labels_text, flags_from, labels_of}
+use Rattle.text.specs.Fields.{between, ascending, dash, lawful_labels, among, letters_from, or_else, labels_text, flags_from, labels_of}
 use Rattle.text.specs.Words.{same, spelling, word_of}
-use Rattle.text.proofs.Digits.{decimals}
 pub use Rattle.text.proofs.Ranges.{between_true}
 use Rattle.text_laws.proofs.SoundAsks.{some_none}
 
@@ -35,17 +31,6 @@ word_spelling f w e = either Mdp _ (either State _ (either Choice _ (either Bran
   where
     either : (v : Word) (rest : Option Word) → (rest ≡ Some w → f ≡ spelling w) → cond (same f (spelling v)) (Some v) rest ≡ Some w → f ≡ spelling w
     either v rest more h = ⊎_elim (λ p. same_true f (spelling v) p.0 ∙ ap spelling p.1) more (some_of _ v w rest h)
-
--- a lawful number is the writing of its amount
-pub decimal_amount : (w : List ℕ) → lawful_number w ≡ true → decimal (amount w) ≡ w
-decimal_amount w e =
-    let p = and_parts (all_ascii_digits w) _ e in
-    let q = and_parts (between 1 7 (length w)) _ p.1 in
-    let r = between_true 1 7 (length w) q.0 in
-    let small : amount w < 10 ^ 7 = digits_value_short decimals w 7 p.0 r.1 in
-    decimal-digits_value decimals w p.0 r.0
-    (λ z. ⊎_elim (eqb-true (length w) 1) (λ n. absurd (eqb-false (get_or w 0 0) 48 (not-true _ n) z)) (or_cases (eqb (length w) 1) _ q.1))
-    (omega arith)
 
 -- a letter below ascending ones is not among them
 pub not_among : (letter low : ℕ) (cs : List ℕ) → letter < low → ascending low cs ≡ true → among letter cs ≡ false

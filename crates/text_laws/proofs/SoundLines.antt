@@ -10,7 +10,8 @@ use Rattle.text.specs.Texts.{header_line, state_line, choice_line, branch_line, 
 use Rattle.text.specs.Questions.{word, number, is, on, states_given, count, above_last, counted, fields_fit}
 use Rattle.text_laws.proofs.Nest.{branch_of}
 use Rattle.text_laws.proofs.SoundAsks.{Passes}
-use Rattle.text_laws.proofs.SoundFields.{between_true, word_spelling, decimal_amount, labels_text_of}
+use Rattle.text_laws.proofs.SoundFields.{between_true, word_spelling, labels_text_of}
+use Rattle.text.proofs.Digits.{decimal_amount}
 
 -- what is one of some words is a word, and among them
 pub some_word : (ws : List Word) (o : Option Word) → one_of ws o ≡ true → (w : Word) × (o ≡ Some w) × (listed w ws ≡ true)
@@ -50,8 +51,8 @@ fields_of l w e t = eqb-true (length l) (arity w) (ap (λ o. counted o (length l
 two_numbers : (before : List Line) (l : Line) (w : Word) → word l ≡ Some w → listed w (Mdp ∷ Branch ∷ []) ≡ true → arity w ≡ 3 → Passes before l → l ≡ spelling w ∷ decimal (number 1 l) ∷ decimal (number 2 l) ∷ []
 two_numbers before l w e h three p =
     let f0 = word_spelling (field 0 l) w e in
-    let f1 = decimal_amount (field 1 l) (on_true (Mdp ∷ Branch ∷ []) l _ w e h p.number_1) in
-    let f2 = decimal_amount (field 2 l) (on_true (Mdp ∷ Branch ∷ []) l _ w e h p.number_2) in
+    let f1 = decimal_amount 7 (field 1 l) (omega arith) (on_true (Mdp ∷ Branch ∷ []) l _ w e h p.number_1) in
+    let f2 = decimal_amount 7 (field 2 l) (omega arith) (on_true (Mdp ∷ Branch ∷ []) l _ w e h p.number_2) in
     let f = three_fields l (fields_of l w e p.arity ∙ three) in
     cc
 

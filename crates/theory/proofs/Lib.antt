@@ -18,4 +18,3 @@ pub mod Bridge
 pub mod Near
 pub mod Alike
 pub mod Judged
-pub mod Figures

@@ -162,3 +162,27 @@ pub(crate) const WRONG_TRIALS: &[&str] = &[
     "kavzhubo trial retry.mdp count.calls",
     "kavzhubo trial retry.mdp retry.mdp",
 ];
+
+// Command lines that check lists of limits: one whose formulas are all judged, one with refused formulas, and one with a single
+// formula, whose progress is not told.
+pub(crate) const CHECKS: &[&str] = &[
+    "kavzhubo check relearn.mdp relearn.limits",
+    "kavzhubo check retry.mdp retry.limits",
+    "kavzhubo check ladder:2:4:3 ladder.limits",
+];
+
+// Command lines that check a list on a model that is refused.
+pub(crate) const REFUSED_CHECKS: &[&str] = &[
+    "kavzhubo check sum.mdp retry.limits",
+    "kavzhubo check ladder:0:4:3 nowhere.limits",
+];
+
+// Command lines of lists of limits that are wrong, by their words or by a file that is not there.
+pub(crate) const WRONG_CHECKS: &[&str] = &[
+    "kavzhubo check",
+    "kavzhubo check retry.mdp",
+    "kavzhubo check retry.mdp retry.limits twice",
+    "kavzhubo check ladder:2:4 retry.limits",
+    "kavzhubo check nowhere.mdp retry.limits",
+    "kavzhubo check retry.mdp nowhere.limits",
+];

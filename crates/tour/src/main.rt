@@ -5,12 +5,14 @@
 mod lines;
 
 use crate::lines::{
-    FILES, FORMULAS, LADDERS, REFUSED, REFUSED_FORMULAS, REFUSED_LADDERS, REFUSED_ROUNDS,
-    REFUSED_TRIALS, ROUNDS, TRIALS, WRONG, WRONG_FORMULAS, WRONG_ROUNDS, WRONG_TRIALS,
+    CHECKS, FILES, FORMULAS, LADDERS, REFUSED, REFUSED_CHECKS, REFUSED_FORMULAS, REFUSED_LADDERS,
+    REFUSED_ROUNDS, REFUSED_TRIALS, ROUNDS, TRIALS, WRONG, WRONG_CHECKS, WRONG_FORMULAS,
+    WRONG_ROUNDS, WRONG_TRIALS,
 };
 use console::answer::{path, reply};
 use console::reply::Reply;
 use layers::hold::Hold;
+use model::limits::TEXT_BYTES;
 use model::source::Source;
 use printing::listing::{state_text, totals};
 use printing::totals::Totals;
@@ -37,9 +39,11 @@ fn file(rt: &HostRuntime, args: &[String], number: usize) -> Option<Vec<u8>> {
 fn play(rt: &HostRuntime, line: &str) -> io::Result<()> {
     let args = words(rt.alloc(), line)?;
     let args = args.as_slice();
-    let (model, calls) = (file(rt, args, 0), file(rt, args, 1));
+    let (model, other) = (file(rt, args, 0), file(rt, args, 1));
+    let (model, other) = (model.as_deref(), other.as_deref());
+    let (mut out, mut progress) = (rt.stdout(), rt.stdout());
     println!(rt; "\n$ {line}")?;
-    match reply(rt.alloc(), args, model.as_deref(), calls.as_deref())? {
+    match reply(rt.alloc(), args, model, other, &mut out, &mut progress)? {
         Reply::Printed(text) => {
             rt.stdout().write_all(text.as_slice())?;
             rt.println("(exit status 0)")
@@ -105,7 +109,7 @@ fn print_layers(rt: &HostRuntime, name: &str) -> io::Result<()> {
 fn print_copy(rt: &HostRuntime, name: &str) -> io::Result<()> {
     let text = fs::read(rt, name)?;
     let mut tables = Tables::new(rt.alloc())?;
-    let mut out = vec![in rt.alloc(); 0u8; 65_536]?;
+    let mut out = vec![in rt.alloc(); 0u8; TEXT_BYTES]?;
     match tables.load_and_write(text.as_slice(), out.as_mut_slice()) {
         Ok(length) => {
             out.truncate(length);
@@ -144,5 +148,12 @@ fn main(rt: HostRuntime) -> io::Result<()> {
     play_all(&rt, "Wrong command lines of formulas.", WRONG_FORMULAS)?;
     play_all(&rt, "Trials.", TRIALS)?;
     play_all(&rt, "Trials of refused models.", REFUSED_TRIALS)?;
-    play_all(&rt, "Wrong command lines of trials.", WRONG_TRIALS)
+    play_all(&rt, "Wrong command lines of trials.", WRONG_TRIALS)?;
+    play_all(
+        &rt,
+        "Lists of limits. The program tells on standard error which formula comes next.",
+        CHECKS,
+    )?;
+    play_all(&rt, "Lists of limits on refused models.", REFUSED_CHECKS)?;
+    play_all(&rt, "Wrong command lines of lists of limits.", WRONG_CHECKS)
 }

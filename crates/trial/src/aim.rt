@@ -6,7 +6,9 @@ use rules::parts::Parts;
 use rules::preference::Preference;
 use rules::rounding::Rounding;
 
-// What a query asks for: the largest value among all adversaries, or the smallest.
+// What a query asks for: the largest value among all adversaries, or the smallest. It is a type beside `Preference`, which is
+// of the two values that a rule compares the one it keeps: a rule of marks has a preference and no query, and what a comparison
+// gives is an aim.
 #[derive(Clone, Copy, PartialEq, Eq, Debug)]
 pub enum Aim {
     Best,

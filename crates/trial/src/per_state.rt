@@ -1,12 +1,14 @@
 ghost use Rattle.std.specs.Prelude.{◌≡◌, ℕ, ◌<◌, ◌≤◌, length, slice_index, slice_index_or};
 
+use model::limits::STATES;
 use std::array;
 
-// A value for each state that a source may have. The room is fixed, since the making of a trial cannot fail and wants no memory.
+// A value for each state that a source may have. It is an array of a fixed length, since nothing may want memory here: the
+// making of a trial cannot fail, and no call on one may fail for memory.
 // A list of bytes or a row is asked to have at most as many places where it meets these values.
 #[derive(Drop)]
 pub(crate) struct PerState<T> {
-    pub(crate) values: [T; 512],
+    pub(crate) values: [T; STATES],
     ghost room: { length values ≡ 512 },
 }
 

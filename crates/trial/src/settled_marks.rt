@@ -9,6 +9,7 @@ ghost use Rattle.trial.specs.StateValues.{ValuesOf};
 use crate::per_state::PerState;
 use crate::until::Until;
 use formula::extremal::Extremal;
+use model::limits::STATES;
 use model::source::Source;
 use rounds::settle::settle;
 use rules::marks::Marks;
@@ -37,7 +38,8 @@ fn settled_from<S: Source>(
 {
     let states = source.states();
     let mut values = marks.values;
-    let mut spare = [false; 512];
+    // An array of a fixed length, as that of the marks: nothing here may want memory, so no call can fail for it.
+    let mut spare = [false; STATES];
     let rule = Marks { preference };
     settle(source, &rule, &mut values[..states], &mut spare[..states]).unwrap();
     PerState { values }

@@ -27,7 +27,8 @@ impl Threshold {
         }
     }
 
-    // The end that fits less easily, and the other one.
+    // The end that fits less easily, and the other one. Here and below the two ends are two arguments, since no other function
+    // takes both: a pair of them would be made at the call and taken apart in the function.
     fn ends_by(self, lower: u64, upper: u64) -> (u64, u64)
         ensures first { result.0 ≡ harder (meant self.comparison) lower upper }
         ensures second { result.1 ≡ easier (meant self.comparison) lower upper }

@@ -28,9 +28,10 @@ fn bound_row(
     }
 }
 
+// In both functions here `row` is an argument, whose length each asks: a row is lent for writing beside a source of its own,
+// and is no field of an until, which only reads.
 impl<'s, 'm, S: Source> Until<'s, 'm, S> {
-    // The row of the until without steps under one of its three bounds. The row's length is asked here and below: a row is
-    // lent for writing beside a source of its own, and is no field of an until, which only reads.
+    // The row of the until without steps under one of its three bounds.
     fn extremal_row(&self, bound: Extremal, row: &mut [u8])
         requires { length row.old ≡ (S.Source.model self.now.source.now).states }
         ensures { row.new ≡ bytes (S.Source.model self.now.source.now).states (extremal_verdicts (bound_meant bound) (S.Source.model self.now.source.now) (sets self.now.left.now) (sets self.now.right.now)) }

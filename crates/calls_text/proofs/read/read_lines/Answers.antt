@@ -5,7 +5,8 @@ use Rattle.std.proofs.lemmas.List.{length_push}
 use Rattle.std.specs.Result.{result_map_both}
 use Rattle.std.specs.Iterator.Adapters.{enumerate_source}
 use Rattle.calls_text.specs.Words.{text_lines}
-use Rattle.calls_text.specs.Texts.{begun, line_asks, contents_asked}
+use Rattle.calls_text.specs.Texts.{line_asks, contents_asked}
+use Rattle.calls_text.specs.Readings.{begun}
 use Rattle.calls_text.proofs.Reading.{read_none, read_wrong, read_more, read_all, replays_read_off, next_line, no_line}
 use Rattle.calls_text.proofs.read.read_lines.Goals as goal
 
@@ -20,10 +21,10 @@ loop-index-init c = record {
 pub loop-index-preserved : goal.loop-index-preserved
 loop-index-preserved c =
     let k = c.loop-index.invariant in
-    let next = next_line c.args.text.now k.parts c.loop-index.yielded _ c.loop-index.yielded_by _ _ c.next.ensures.steps c.in-Some.index c.in-Some.line c.in-Some.is in
+    let next = next_line c.args.text.now k.parts c.loop-index.yielded _ c.loop-index.yielded_by _ _ c.next.ensures.steps c.in-Some.index c.in-Some.bytes c.in-Some.is in
     let added = rw c.in_default.is at c.in_ok-wrong.ensures in
     record {
-      read = rw (length_push c.loop-index.yielded (c.in-Some.index, c.in-Some.line)) (read_more _ _ _ _ k.read _ next.1 next.2 _ added.0 added.1 added.2);
+      read = rw (length_push c.loop-index.yielded (c.in-Some.index, c.in-Some.bytes)) (read_more _ _ _ _ k.read _ next.1 next.2 _ added.0 added.1 added.2);
       parts = k.parts;
     }
 
@@ -31,8 +32,8 @@ loop-index-preserved c =
 pub returns-in-Err-clause-read : goal.returns-in-Err-clause-read
 returns-in-Err-clause-read c =
     let k = c.loop-index.invariant in
-    let next = next_line c.args.text.now k.parts c.loop-index.yielded _ c.loop-index.yielded_by _ _ c.next.ensures.steps c.in-Some.index c.in-Some.line c.in-Some.is in
-    let wrong : line_asks c.args.states (begun c.loop-index.script) c.in-Some.line.now ≡ Err c.in-Err.wrong = rw c.in-Err.is at c.in_ok-wrong.ensures in
+    let next = next_line c.args.text.now k.parts c.loop-index.yielded _ c.loop-index.yielded_by _ _ c.next.ensures.steps c.in-Some.index c.in-Some.bytes c.in-Some.is in
+    let wrong : line_asks c.args.states (begun c.loop-index.script) c.in-Some.bytes.now ≡ Err c.in-Err.wrong = rw c.in-Err.is at c.in_ok-wrong.ensures in
     sym (ap (result_map_both contents_asked (λ m. m)) (read_wrong _ _ _ _ k.read _ next.1 next.2 _ wrong) ∙ ap (λ i. Err (record { line = i + 1; wrong = c.in-Err.wrong })) (sym next.0))
 
 -- all lines are read

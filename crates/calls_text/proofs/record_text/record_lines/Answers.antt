@@ -17,7 +17,7 @@ loop-index-preserved c =
     let size : min n (length rest) ≡ c.min.result = search rules in
     let row : c.split_at.result.0.now ≡ take n rest = c.split_at.ensures.front ∙ ap (λ k. take k rest) (sym size) ∙ take_min n rest in
     let after : c.split_at.result.1.now ≡ drop n rest = c.split_at.ensures.back ∙ ap (λ k. drop k rest) (sym size) ∙ drop_min n rest in
-    let pushed : string_bytes c.push_str.new.self ≡ out ++ line = search rules in
+    let pushed : string_bytes c.write.new.self ≡ out ++ line = search rules in
     ap₂ (λ t left. t ++ record_lines n (i + 1) (drop (i + 1) rs) left) pushed after
     ∙ append_assoc out line (record_lines n (i + 1) (drop (i + 1) rs) (drop n rest))
     ∙ ap (λ t. out ++ t) (sym (at_drop_more (λ xs. record_lines n i xs rest) rs i blank within))

@@ -1,34 +1,23 @@
-use Rattle.std.proofs.Common.{◌≡◌, ◌≢◌, ℕ, suc, ◌+◌, ◌-◌, List, length, sym, ap, subst, rules, arith, tests, length-drop}
-use Rattle.std.proofs.lemmas.Iterator.{IsFirst-from_position, YieldsList-from_slice}
-use Rattle.std.proofs.lemmas.List.{take_rest}
-use Rattle.printing.specs.Carets.{field_place}
-use Rattle.printing.proofs.Cutting.{no_tab, at_tab, all_past}
+use Rattle.std.proofs.Common.{◌<◌, length, take, min, eqb, ap, ◌∙◌, rules, tests, arith}
+use Rattle.std.proofs.lemmas.Iterator.{YieldsList-from_take, YieldsList-from_map}
+use Rattle.std.proofs.lemmas.Iterator.Consumers.{sum_by_from_yields_List, fits_by_from_yields_list}
+use Rattle.std.proofs.lemmas.Iterator.Splits.{YieldsList-from_slice_split}
+use Rattle.printing.proofs.Cutting.{with_tab, tab_parts, places}
 use Rattle.printing.proofs.caret.field_place.Goals as goal
 
--- what `position` found: that no byte left is a tab
-pub returns-in-None : goal.returns-in-None
-returns-in-None c =
-    let rest = c.loop.rest.now in
-    let first = IsFirst-from_position _ _ _ (λ b. b ≡ 9) (λ b. b ≢ 9) c.position.ensures.ran (YieldsList-from_slice rest cc) (λ x q k. search (rules, tests)) (λ x q k. search (rules, tests)) in
-    let none = rw c.in-None.is at first in
-    let next : c.args.field - c.loop.counter ≡ suc (c.args.field - (c.loop.counter + 1)) = omega arith in
-    omega (arith, ap (λ k. field_place k rest) next, no_tab (c.args.field - (c.loop.counter + 1)) rest none)
-
--- or the first tab that is left
-pub loop-preserved : goal.loop-preserved
-loop-preserved c =
-    let rest = c.loop.rest.now in
-    let k = c.args.field - (c.loop.counter + 1) in
-    let i = c.in-Some.tab in
-    let first = IsFirst-from_position _ _ _ (λ b. b ≡ 9) (λ b. b ≢ 9) c.position.ensures.ran (YieldsList-from_slice rest cc) (λ x q k. search (rules, tests)) (λ x q k. search (rules, tests)) in
-    let hit = rw c.in-Some.is at first in
-    let next : c.args.field - c.loop.counter ≡ suc k = omega arith in
+-- the fields before come past the line's end by one at most, so their sum fits
+pub sum-requires-clause-fits : goal.sum-requires-clause-fits
+sum-requires-clause-fits c =
     let line = c.args.line.now in
-    subst (λ (t : List ℕ). field_place c.args.field line + length t ≡ length line + field_place k t) (sym (take_rest rest (i + 1)))
-    (omega (arith, ap (λ n. field_place n rest) next, at_tab k i rest hit.0 hit.1 hit.2, length-drop (i + 1) rest))
+    let short : length line < 9223372036854775808 = search rules in
+    fits_by_from_yields_list with_tab (take c.args.field (tab_parts line)) c.map.result _
+    (YieldsList-from_map _ with_tab (YieldsList-from_take c.args.field (YieldsList-from_slice_split _ (λ b. eqb b 9) line (cc) (cc) (cc) (λ x b q k. search (rules, tests))) (cc)) c.map.ensures.closure (λ x r q k. search rules))
+    (omega (arith, (places c.args.field line).0, short))
 
-pub overflow_sub-result : goal.overflow_sub-result
-overflow_sub-result c = omega (arith, all_past c.args.field c.loop.counter c.loop.rest.now (omega arith))
-
+-- and the sum is where the field begins, but for the line's end
 pub returns : goal.returns
-returns c = omega (arith, all_past c.args.field c.loop.counter c.loop.rest.now (omega arith))
+returns c =
+    let line = c.args.line.now in
+    let sum = sum_by_from_yields_List with_tab (take c.args.field (tab_parts line)) c.map.result _ c.sum.ensures.ran
+    (YieldsList-from_map _ with_tab (YieldsList-from_take c.args.field (YieldsList-from_slice_split _ (λ b. eqb b 9) line (cc) (cc) (cc) (λ x b q k. search (rules, tests))) (cc)) c.map.ensures.closure (λ x r q k. search rules)) in
+    c.min.ensures ∙ ap (λ n. min n (length line)) sum ∙ (places c.args.field line).1

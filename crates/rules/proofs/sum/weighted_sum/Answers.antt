@@ -43,7 +43,7 @@ overflow_add-sum c =
     let v = c.index-values-branch.result in
     let e = c.loop-branch.invariant v in
     let more = summed_more row vs v c.loop-branch.branch-index c.loop-branch-test.true in
-    let most = summed_bound (length vs) c.args.denominator row vs v c.requires.lawful in
+    let most = summed_bound (length vs) c.args.denominator.now.value row vs v c.requires.lawful in
     omega arith
 
 pub loop-branch-preserved : goal.loop-branch-preserved
@@ -54,7 +54,7 @@ loop-branch-preserved c d =
     let b = get_or row i no_branch in
     let e = c.loop-branch.invariant d in
     let more = summed_more row vs d i c.loop-branch-test.true in
-    let t = row_target (length vs) c.args.denominator row i c.requires.lawful c.loop-branch-test.true in
+    let t = row_target (length vs) c.args.denominator.now.value row i c.requires.lawful c.loop-branch-test.true in
     omega (arith, ap (λ (p : Part). b.weight * units_of p) (get_or_default vs b.target d c.index-values-branch.result t))
 
 pub returns : goal.returns
@@ -66,5 +66,5 @@ returns c =
     let zero = part_of 0 in
     record {
       sum = λ d. omega (arith, c.loop-branch.invariant d, none d);
-      bound = omega (arith, c.loop-branch.invariant zero, none zero, summed_bound (length vs) c.args.denominator row vs zero c.requires.lawful);
+      bound = omega (arith, c.loop-branch.invariant zero, none zero, summed_bound (length vs) c.args.denominator.now.value row vs zero c.requires.lawful);
     }

@@ -36,7 +36,7 @@ fold-requires-clause-callable c =
     let road = YieldsList-from_slice {s = c.iter.result} row c.iter.ensures.rest in
     serves_by _ (λ xs q. q.0.0.now ≡ vs) (λ xs q x w j r. search rules) _ _ _ _ refl (λ xs t q x u y e j.
     let m = YieldsList-turn road xs t y (Some x) u x refl e in
-    let bound : x.now.target < length vs = rw (m.1 ∙ get_or_default row (length xs) x.now no_branch m.0) (row_target (length vs) c.args._denominator row (length xs) c.requires.lawful m.0) in
+    let bound : x.now.target < length vs = rw (m.1 ∙ get_or_default row (length xs) x.now no_branch m.0) (row_target (length vs) c.args._denominator.now.value row (length xs) c.requires.lawful m.0) in
     let held : x.now.target < length q.0.0.now = rw j bound in
     search rules)
 

@@ -22,10 +22,10 @@ any-requires-clause-callable c =
     let row = c.args.row.now in
     let vs = c.args.values.now in
     serves_from_places (YieldsList-from_slice row (cc)) (λ x q e. search rules) (λ x k h e.
-    let bound : x.now.target < length vs = rw (e ∙ get_or_default row k x.now no_branch h) (row_target (length vs) c.args._denominator row k c.requires.lawful h) in
+    let bound : x.now.target < length vs = rw (e ∙ get_or_default row k x.now no_branch h) (row_target (length vs) c.args._denominator.now.value row k c.requires.lawful h) in
     search rules)
 
 pub returns : goal.returns
 returns c d =
     any_from_yields_List (λ (b : Branch). get_or c.args.values.now b.target false) _ _ _ c.any.ensures.ran (YieldsList-from_slice c.args.row.now (cc)) (λ x b q k. search (rules, tests))
-    ∙ any_marked c.args._denominator 0 c.args.values.now d c.args.row.now c.requires.lawful.ascends
+    ∙ any_marked c.args._denominator.now.value 0 c.args.values.now d c.args.row.now c.requires.lawful.ascends

@@ -1,0 +1,7 @@
+use Rattle.std.proofs.Common.{rules}
+use Rattle.console.proofs.Returning.{writes_nothing}
+use Rattle.console.proofs.check_reply.Limits.check.Goals as goal
+
+-- without a model nothing is written
+pub returns-in-Err : goal.returns-in-Err
+returns-in-Err g c = writes_nothing _ _ _ (search rules)

@@ -1,0 +1,27 @@
+use Rattle.std.proofs.Common.{◌≡◌, ◌<◌, ◌≤◌, map, length, sym, ap, ◌∙◌, count_by, arith}
+use Rattle.std.proofs.lemmas.List.{length-map, get_or-map}
+use Rattle.limits_text.specs.Lists.{is_formula, list_lines}
+use Rattle.limits_text.proofs.Reporting.{reported_none, reported_more, reported_all}
+use Rattle.limits_text.proofs.list.report_list.Goals as goal
+
+-- no line is reported
+pub loop-index-init : goal.loop-index-init
+loop-index-init g c = rw c.new-outcomes.ensures.items (reported_none _ _ _ _ _)
+
+-- one line more is
+pub loop-index-preserved : goal.loop-index-preserved
+loop-index-preserved g c =
+    let lines = c.deref-line-items.result.now in
+    let k = c.loop-index.index in
+    let within : k < length (map (λ p. p.now) lines) = omega (arith, length-map lines (λ p. p.now), c.loop-index-test.true) in
+    reported_more _ _ _ k _ _ _ _ _ c.loop-index.invariant _ within (sym (get_or-map (λ p. p.now) lines k _ _ c.loop-index-test.true)) _ _ _ _ _ (c.len.ensures ∙ c.loop-index.outcomes.ok.0) c.in_ok-tell_line.ensures c.in_ok-outcome.ensures c.in_ok-keep.ensures
+
+-- all lines are
+pub returns : goal.returns
+returns g c =
+    let lines = c.deref-line-items.result.now in
+    let all : map (λ p. p.now) lines ≡ list_lines c.args.list.now = ap (map (λ p. p.now)) c.deref-line-items.ensures.value ∙ c.in_ok-lines.ensures in
+    let formulas : c.formula_count-formulas.result ≡ count_by is_formula (map (λ p. p.now) lines) =
+    c.formula_count-formulas.ensures ∙ ap (λ l. count_by is_formula (map (λ p. p.now) l)) (c.as_slice.ensures.value ∙ sym c.deref-line-items.ensures.value) in
+    let past : length (map (λ p. p.now) lines) ≤ c.loop-index.index = omega (arith, length-map lines (λ p. p.now), c.loop-index-test.false) in
+    reported_all _ c.args.list.now _ _ _ _ _ _ _ _ all formulas c.loop-index.invariant past

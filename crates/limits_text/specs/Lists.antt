@@ -1,0 +1,83 @@
+-- What is written of a list of limits, line by line.
+use Rattle.std.specs.Prelude.{◌≡◌, ℕ, ◌+◌, Bool, true, false, cond, List, [], ◌∷◌, ◌++◌, length, count_by, codes, decimal, Option, option_to_list, nat_lt}
+use Rattle.std.specs.Io.KnownBytes.{Appends}
+use Rattle.model.specs.Mdp.{Mdp}
+use Rattle.text.specs.Cuts.{pieces}
+use Rattle.limits_text.specs.declared.item.Item.{Item}
+use Rattle.limits_text.specs.declared.item.Item.TheVariants.{Nothing, Heading, Formula}
+use Rattle.limits_text.specs.declared.outcome.Outcome.{Outcome}
+use Rattle.limits_text.specs.Lines.{item_of}
+use Rattle.limits_text.specs.Reports.{LineAnswer}
+
+-- the lines of a list: an LF (10) parts two of them
+abbrev pub list_lines : List ℕ → List (List ℕ)
+list_lines list = pieces 10 list
+
+-- is it a formula?
+abbrev pub formula_item : Item → Bool
+formula_item Nothing = false
+formula_item Heading = false
+formula_item Formula = true
+
+-- is a line a formula?
+abbrev pub is_formula : List ℕ → Bool
+is_formula line = formula_item (item_of line)
+
+-- how many lines of a list are formulas
+abbrev pub formula_count : List ℕ → ℕ
+formula_count list = count_by is_formula (list_lines list)
+
+-- what is told before formula i of n, counted from 1, where there are several
+abbrev pub progress_line : ℕ → ℕ → List ℕ
+progress_line i n = cond (nat_lt 1 n) (codes "kavzhubo: formula " ++ (decimal i ++ (codes " of " ++ (decimal n ++ codes "\n")))) []
+
+-- what is told before a line, if it is formula i of n
+abbrev pub progress_before : ℕ → ℕ → List ℕ → List ℕ
+progress_before i n line = cond (is_formula line) (progress_line i n) []
+
+-- what is written of some lines: what is told of the progress, the reports, and the outcomes of their formulas
+pub record Written : Type 0 where
+  pub progress : List ℕ
+  pub reports : List ℕ
+  pub outcomes : List Outcome
+
+-- nothing is written
+abbrev pub nothing : Written
+nothing = record { progress = []; reports = []; outcomes = [] }
+
+-- what is written, and then more
+abbrev pub and_more : Written → Written → Written
+and_more w v = record { progress = w.progress ++ v.progress; reports = w.reports ++ v.reports; outcomes = w.outcomes ++ v.outcomes }
+
+-- what is written of line k where i formulas of n came before it: its progress, and its report with the outcome if it is a formula
+pub record LineWritten (m : Mdp) (n i k : ℕ) (line : List ℕ) (w : Written) : Type 0 where
+  pub outcome : Option Outcome
+  pub report : LineAnswer m k line w.reports outcome
+  pub outcomes : w.outcomes ≡ option_to_list outcome
+  pub progress : w.progress ≡ progress_before (i + 1) n line
+
+-- what is written of the lines from number k on, one after the other
+abbrev pub LinesWritten : Mdp → ℕ → ℕ → ℕ → List (List ℕ) → Written → Type 0
+LinesWritten m n i k [] w = w ≡ nothing
+LinesWritten m n i k (l ∷ ls) w = (first : Written) × (rest : Written) × LineWritten m n i k l first × LinesWritten m n (i + length first.outcomes) (k + 1) ls rest × (w ≡ and_more first rest)
+
+-- what is written of a list
+abbrev pub ListWritten : Mdp → List ℕ → Written → Type 0
+ListWritten m list w = LinesWritten m (formula_count list) 0 1 (list_lines list) w
+
+-- what is written of a list, whose formulas have these outcomes
+abbrev pub ListReported : Mdp → List ℕ → List Outcome → Written → Type 0
+ListReported m list outcomes w = ListWritten m list w × (outcomes ≡ w.outcomes)
+
+-- what has a property is written to two writers, which had the bytes o and p if these are known, and have o' and p' now
+pub record Writes (says : Written → Type 0) (o o' p p' : Option (List ℕ)) : Type 0 where
+  pub written : Written
+  pub said : says written
+  pub out : Appends o o' written.reports
+  pub progress : Appends p p' written.progress
+
+-- a line was reported to a writer
+pub record LineReported (m : Mdp) (k : ℕ) (line : List ℕ) (o o' : Option (List ℕ)) (outcome : Option Outcome) : Type 0 where
+  pub report : List ℕ
+  pub answer : LineAnswer m k line report outcome
+  pub out : Appends o o' report

@@ -1,0 +1,101 @@
+ghost use Rattle.std.specs.Prelude.{◌≡◌, ◌++◌, map, count_by, IfOk, OnOk, option_to_list};
+ghost use Rattle.std.specs.Io.KnownBytes.{Appends};
+ghost use Rattle.limits_text.specs.Lists.{list_lines, is_formula, progress_line, progress_before, LineReported, ListReported, Writes};
+
+use crate::item::Item;
+use crate::outcome::Outcome;
+use crate::report::line_report;
+use model::source::Source;
+use std::alloc::{AllocError, Global};
+use std::io;
+use std::io::Write;
+
+// The lines of a list.
+fn lines_of(heap: Global, list: &[u8]) -> Result<Vec<&[u8]>, AllocError>
+    ensures { IfOk result (λ lines. map (λ l. l.now) lines.items ≡ list_lines list.now) }
+{
+    list.split(|byte| *byte == b'\n').collect(heap)
+}
+
+// How many of some lines are formulas.
+fn formula_count(lines: &[&[u8]]) -> usize
+    ensures { result ≡ count_by is_formula (map (λ l. l.now) lines.now) }
+{
+    lines
+        .iter()
+        .filter(|line| Item::from(**line) == Item::Formula)
+        .count()
+}
+
+// Tells that a formula comes next, by its number and how many there are, if there are several.
+fn tell<P: Write>(progress: &mut P, number: usize, formulas: usize) -> io::Result<()>
+    ensures { OnOk result (Appends (P.Write.contents progress.old) (P.Write.contents progress.new) (progress_line number formulas)) }
+{
+    if formulas > 1 {
+        write!(progress, "kavzhubo: formula {number} of {formulas}\n")?;
+    }
+    Ok(())
+}
+
+// Tells that a line comes next, if it is a formula.
+fn tell_line<P: Write>(
+    progress: &mut P,
+    number: usize,
+    formulas: usize,
+    line: &[u8],
+) -> io::Result<()>
+    ensures { OnOk result (Appends (P.Write.contents progress.old) (P.Write.contents progress.new) (progress_before number formulas line.now)) }
+{
+    match Item::from(line) {
+        Item::Formula => tell(progress, number, formulas),
+        Item::Heading | Item::Nothing => Ok(()),
+    }
+}
+
+// Writes the report of a line, and answers what came of its formula, if it is one. The source and a writer are two arguments here
+// and below: a writer is lent anew for each line, and a struct that held it would be made for each.
+fn report_line<S: Source, W: Write>(
+    heap: Global,
+    source: &S,
+    number: usize,
+    line: &[u8],
+    out: &mut W,
+) -> io::Result<Option<Outcome>>
+    ensures { IfOk result (λ o. LineReported (S.Source.model source.now) number line.now (W.Write.contents out.old) (W.Write.contents out.new) o) }
+{
+    let (report, outcome) = line_report(heap, source, number, line)?;
+    out.write_all(report.as_bytes())?;
+    Ok(outcome)
+}
+
+// Keeps an outcome, if there is one.
+fn keep(outcomes: &mut Vec<Outcome>, outcome: Option<Outcome>) -> Result<(), AllocError>
+    ensures { OnOk result (outcomes.new.items ≡ outcomes.old.items ++ option_to_list outcome) }
+{
+    if let Some(outcome) = outcome {
+        outcomes.push(outcome)?;
+    }
+    Ok(())
+}
+
+// Judges the lines of a list over a source, one after another. The report of each is written before the next is judged, and
+// before each formula its number is told where there are several. Answers the outcomes of the formulas.
+pub fn report_list<S: Source, W: Write, P: Write>(
+    heap: Global,
+    source: &S,
+    list: &[u8],
+    out: &mut W,
+    progress: &mut P,
+) -> io::Result<Vec<Outcome>>
+    ensures { IfOk result (λ os. Writes (ListReported (S.Source.model source.now) list.now os.items) (W.Write.contents out.old) (W.Write.contents out.new) (P.Write.contents progress.old) (P.Write.contents progress.new)) }
+{
+    let lines = lines_of(heap, list)?;
+    let formulas = formula_count(lines.as_slice());
+    let mut outcomes = Vec::new(heap);
+    for (index, line) in lines.iter().enumerate() {
+        tell_line(progress, outcomes.len() + 1, formulas, line)?;
+        let outcome = report_line(heap, source, index + 1, line, out)?;
+        keep(&mut outcomes, outcome)?;
+    }
+    Ok(outcomes)
+}
