@@ -66,10 +66,11 @@ verdict_of line = do
   bound ← number_at 3 line
   Some (play (verdict state comparison bound))
 
--- the most records and the most bytes that a line may ask for
+-- the most records that a line may ask for
 abbrev pub most_records : ℕ
 most_records = 64
 
+-- the most bytes of scratch, and of output, that a line may ask for
 abbrev pub most_bytes : ℕ
 most_bytes = 65536
 

@@ -111,7 +111,7 @@ before_word (Rounds NoCount) = codes "kavzhubo: this is no number of rounds: "
 before_word (Rounds NoValues) = codes "kavzhubo: these are no values: "
 before_word (Rounds NoMarks) = codes "kavzhubo: these are no marks: "
 
--- and after it
+-- what the sentence says after that word
 abbrev pub after_word : Mistake → List ℕ
 after_word NoCommand = codes "; kavzhubo help lists the commands\n"
 after_word NoSuchCommand = codes "; kavzhubo help lists the commands\n"

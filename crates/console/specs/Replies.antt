@@ -24,7 +24,7 @@ use Rattle.console.specs.declared.found.Found.{Found}
 use Rattle.console.specs.declared.found.Found.TheVariants as found
 use Rattle.records.specs.declared.fault.JudgeFault.{JudgeFault}
 use Rattle.formula.specs.Answers.{CountAnswer}
-use Rattle.formula_text.specs.Answers.{lent, Tabled}
+use Rattle.formula_text.specs.Answers.{lent_records, Tabled}
 use Rattle.formula_text.specs.Words.{judge_refusal}
 use Rattle.rounds_text.specs.declared.kind.Kind.{Kind}
 use Rattle.rounds_text.specs.declared.kind.Kind.TheVariants.{Parts, Marks}
@@ -136,12 +136,12 @@ RoundsAnswer r m path file args a =
 -- the answer of a formula's text: the table of its records, or the refusal of the fault for which it is not read
 abbrev pub FormulaTextAnswer : List ℕ → Answer → Type 0
 FormulaTextAnswer text (printed table) = Tabled text table
-FormulaTextAnswer text (refused refusal) = (f : JudgeFault) × CountAnswer text lent (Err f) × (refusal ≡ judge_refusal f text)
+FormulaTextAnswer text (refused refusal) = (f : JudgeFault) × CountAnswer text lent_records (Err f) × (refusal ≡ judge_refusal f text)
 FormulaTextAnswer text (wrong sentence) = ⊥
 
 -- calls were made in turn on a trial of a model with some states held, and the answer prints what came of the states and of the
 -- calls; each verdict among them is read off the ends that are printed with it
-pub record Trialed (m : Mdp) (c : Contents) (a : Answer) : Type 0 where
+pub record CallsReplayed (m : Mdp) (c : Contents) (a : Answer) : Type 0 where
   pub before : List Call
   pub after : List Call
   pub asked : map given before ≡ c.calls
@@ -152,7 +152,7 @@ pub record Trialed (m : Mdp) (c : Contents) (a : Answer) : Type 0 where
 -- the answer of a text of calls on a model, given its path and its bytes, if they could be read: what comes of the calls, or its first mistake
 abbrev pub CallsAnswer : List ℕ → Option (List ℕ) → Mdp → Answer → Type 0
 CallsAnswer path None m a = a ≡ wrong (no_file_text path)
-CallsAnswer path (Some text) m a = MatchResult (text_read m.states text) (λ c. Trialed m c a) (λ e. a ≡ wrong (wrong_line_text path (line_text e)))
+CallsAnswer path (Some text) m a = MatchResult (text_read m.states text) (λ c. CallsReplayed m c a) (λ e. a ≡ wrong (wrong_line_text path (line_text e)))
 
 -- the answer after a list of limits: its summary, with exit status 0 only if no formula of it is refused
 abbrev pub summary_answer : Summary → Answer

@@ -2,7 +2,7 @@ ghost use Rattle.std.specs.Prelude.{IfOk};
 ghost use Rattle.std.specs.Option.{option_map};
 ghost use Rattle.calls_text.specs.Texts.{contents};
 ghost use Rattle.calls_text.specs.VerdictEnds.{ReplaysReadOff};
-ghost use Rattle.console.specs.Replies.{answer_of, Trialed, CallsAnswer};
+ghost use Rattle.console.specs.Replies.{answer_of, CallsReplayed, CallsAnswer};
 
 use crate::help::{no_file_text, wrong_line_text};
 use crate::reply::Reply;
@@ -26,7 +26,7 @@ pub(crate) struct Calls<'a> {
 // Holds the states of a script in a layer over the source, and makes its calls on a trial of that.
 fn trialed<S: Source>(heap: Global, source: &S, script: Script) -> Result<Reply, AllocError>
     requires { ReplaysReadOff script }
-    ensures { IfOk result (λ a. Trialed (S.Source.model source.now) (contents script) (answer_of a)) }
+    ensures { IfOk result (λ a. CallsReplayed (S.Source.model source.now) (contents script) (answer_of a)) }
 {
     let Script { holds, mut calls } = script;
     let mut layer = Hold::over(source);

@@ -13,7 +13,7 @@ use Rattle.formula.specs.Questions.{formula_fault}
 use Rattle.formula.specs.Answers.{Within, Limits, Accepted, Faulty, JudgeAnswer}
 use Rattle.formula.proofs.Forms.{length_records}
 use Rattle.formula_text.specs.Tables.{records_table}
-use Rattle.formula_text.specs.Answers.{Tabled, lent}
+use Rattle.formula_text.specs.Answers.{Tabled, lent_records}
 
 -- what is written over the front of a list, as much of it as fits, stands there
 front_over : {X : Type 0} (new xs ys : List X) (n : ℕ) → n ≡ min (length new) (length xs) → ys ≡ over new xs → take n ys ≡ take (length xs) new
@@ -22,7 +22,7 @@ front_over new xs ys n e f =
     rw (f, all) (take-append_seam (take (length xs) new) (drop (length new) xs))
 
 -- the records that an accepted text leaves at the front of those lent are those of its formula
-pub tabled : (text bytes : List ℕ) (blank left : List Record) (n : ℕ) → length blank ≡ lent → Limits → Accepted text blank left n → bytes ≡ records_table (take n left) → Tabled text bytes
+pub tabled : (text bytes : List ℕ) (blank left : List Record) (n : ℕ) → length blank ≡ lent_records → Limits → Accepted text blank left n → bytes ≡ records_table (take n left) → Tabled text bytes
 tabled text bytes blank left n long limits a e =
     let f = a.formula in
     let within : Within (length blank) f = (limits (length blank) f a.spelled).0 a.limits in

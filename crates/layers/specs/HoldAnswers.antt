@@ -10,7 +10,7 @@ abbrev pub fault_number : HoldFault → ℕ
 fault_number Held = 43
 
 -- the state s is held: it is a state of m, its flag is set, and the layer's model is the one before with s held
-pub record Did (m : Mdp) (s : ℕ) (before after : List Bool) : Type 0 where
+pub record StateHeld (m : Mdp) (s : ℕ) (before after : List Bool) : Type 0 where
   pub there : s < m.states
   pub flags : after ≡ slice_set before s true
   pub model : held_model m after ≡ held s (held_model m before)
@@ -23,5 +23,5 @@ pub record Refused (m : Mdp) (s : ℕ) (before after : List Bool) (e : HoldFault
 
 -- what holding the state s of a layer over m answers, with the flags before and after
 abbrev pub Ran : Mdp → ℕ → List Bool → List Bool → Result (Unit {0}) HoldFault → Type 0
-Ran m s before after (Ok _) = Did m s before after
+Ran m s before after (Ok _) = StateHeld m s before after
 Ran m s before after (Err e) = Refused m s before after e

@@ -17,7 +17,7 @@ use Rattle.trial.specs.Rows.{byte_at}
 use Rattle.trial.specs.PathEnds.{TwoEnds, ends_of, Told}
 use Rattle.trial.specs.declared.two_ends.Ends.{Ends}
 use Rattle.printing.specs.Carets.{shown}
-use Rattle.formula_text.specs.Answers.{lent}
+use Rattle.formula_text.specs.Answers.{lent_records}
 use Rattle.formula_text.proofs.Answering.{for_any}
 use Rattle.limits_text.specs.declared.outcome.Outcome.{Outcome}
 use Rattle.limits_text.specs.declared.outcome.Counts.{Counts}
@@ -29,7 +29,7 @@ use Rattle.limits_text.proofs.Printable.{print_shown}
 
 -- buffers that have room for every formula within the limits
 pub record Roomy (m : Mdp) (b : judging.Buffers) : Type 0 where
-  pub records : length b.records ≡ lent
+  pub records : length b.records ≡ lent_records
   pub scratch : length b.scratch ≡ 64 * m.states
   pub out : length b.out ≡ m.states
 
@@ -43,7 +43,7 @@ refused m text b judge.Scratch room r =
 refused m text b judge.Out room r = absurd (r.3 room.out)
 
 -- so for any records of that number it is
-pub refused_text : (m : Mdp) (text : List ℕ) (b : judging.Buffers) (e : JudgeFault) → Roomy m b → judging.Refused m text b e → CountAnswer text lent (Err e)
+pub refused_text : (m : Mdp) (text : List ℕ) (b : judging.Buffers) (e : JudgeFault) → Roomy m b → judging.Refused m text b e → CountAnswer text lent_records (Err e)
 refused_text m text b e room r = λ other long. (other, for_any text b.records b.records other e (long ∙ sym room.records) (refused m text b e room r))
 
 -- a judged outcome is none of a refusal

@@ -10,7 +10,7 @@ use Rattle.trial.specs.Judging.{Reads, row_of}
 use Rattle.trial.specs.PathEnds.{TwoEnds, ends_of}
 use Rattle.printing.specs.Carets.{shown}
 use Rattle.formula_text.specs.Words.{judge_refusal}
-use Rattle.formula_text.specs.Answers.{lent}
+use Rattle.formula_text.specs.Answers.{lent_records}
 use Rattle.limits_text.specs.declared.outcome.Outcome.{Outcome}
 use Rattle.limits_text.specs.declared.outcome.Outcome.TheVariants as outcome
 use Rattle.limits_text.specs.declared.item.Item.{Item}
@@ -31,7 +31,7 @@ refusal_report e text = judge_refusal e text ++ codes "\n"
 -- outcome means what it says
 pub record JudgedReport (m : Mdp) (text bytes : List ℕ) (o : Outcome) : Type 0 where
   pub formula : Formula
-  pub reads : Reads text lent formula
+  pub reads : Reads text lent_records formula
   pub report : bytes ≡ formula_report (print formula) (row_of m formula) (ends_of m formula)
   pub outcome : o ≡ outcome_of (counts_of (row_of m formula))
   pub rightly : JudgedRightly m formula
@@ -40,7 +40,7 @@ pub record JudgedReport (m : Mdp) (text bytes : List ℕ) (o : Outcome) : Type 0
 -- the text spells no formula within the limits; the bytes are its refusal
 pub record RefusedReport (text bytes : List ℕ) : Type 0 where
   pub fault : JudgeFault
-  pub refused : CountAnswer text lent (Err fault)
+  pub refused : CountAnswer text lent_records (Err fault)
   pub report : bytes ≡ refusal_report fault text
 
 -- what is answered of the text of a formula: the report of a judged formula with its outcome, or that of a refused text

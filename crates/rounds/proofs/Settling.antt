@@ -82,7 +82,7 @@ module _ (m : Mdp) (l : Lawful m) (marks : List Bool) where
   adds_none Greater h k s q = yes_first_yes _ _ (falling yes_first mix_marks marks_greater m l (told marks false) (λ t r. from_yes_first _ _ (h t r)) k s q)
   adds_none Lesser h k s q = no_first_grows _ _ (rising no_first mix_marks marks_lesser m l (told marks false) (λ t r. from_no_first _ _ (h t r)) k s q)
 
-  -- in the first case a round that changes no mark comes soon
+  -- in the first case a round that changes no mark comes within_states
   pub taken_settles : (p : Preference) → TakesNone p m marks → (i : ℕ) × (i ≤ m.states) × Settled m (marks_after p m marks) i
   taken_settles p h = settle m (marks_after p m marks) (takes_none p h)
 
@@ -102,7 +102,7 @@ module _ (p : Preference) (m : Mdp) (l : Lawful m) (marks spare marks' spare' : 
         asked = asked;
         before = k;
         reached = add-one k;
-        first_unchanged = record { unchanged = settled; earlier = earlier; soon = few; for_good = for_good p m l marks k settled };
+        first_unchanged = record { unchanged = settled; earlier = earlier; within_states = few; for_good = for_good p m l marks k settled };
         first = same ∙ second ∙ list_for_good p m l marks k settled few;
         second = sym same;
       }

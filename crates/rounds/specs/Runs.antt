@@ -25,7 +25,7 @@ module _ {V : Type 0} (preferred : V → V → Bool) (mix : ℕ → List (ℕ ×
 module _ {V : Type 0} (preferred : V → V → Bool) (mix : ℕ → List (ℕ × V) → V) (m : Mdp) (k : ℕ) (values spare : List V) (values' spare' : List V) where
   -- k rounds are run: both lists are as defined, and at each state the first now holds the optimum over all adversaries with k steps
   -- d stands for a value past the end of a list, and is never read
-  pub record Did : Type 0 where
+  pub record RoundsRun : Type 0 where
     pub asked : rounds_fault m.states (length values) (length spare) k ≡ None
     pub first : (d : V) → values' ≡ values_after preferred mix m values d k
     pub second : (d : V) → spare' ≡ spare_after preferred mix m values spare d k
@@ -39,5 +39,5 @@ module _ {V : Type 0} (preferred : V → V → Bool) (mix : ℕ → List (ℕ ×
 
   -- what the call answers and leaves
   abbrev pub Ran : Result (Unit {0}) RoundsFault → Type 0
-  Ran (Ok _) = Did
+  Ran (Ok _) = RoundsRun
   Ran (Err e) = Refused e

@@ -20,7 +20,7 @@ module _ (p : Preference) (m : Mdp) (marks : List Bool) where
   pub record FirstUnchanged (i : ℕ) : Type 0 where
     pub unchanged : Settled m marks_after i
     pub earlier : (j : ℕ) → j < i → ¬ (Settled m marks_after j)
-    pub soon : i ≤ m.states
+    pub within_states : i ≤ m.states
     pub for_good : (k : ℕ) → i ≤ k → (s : ℕ) → s < m.states → marks_after k s ≡ marks_after i s
 
   -- the first round takes no mark away
@@ -52,7 +52,7 @@ module _ (p : Preference) (m : Mdp) (marks spare marks' spare' : List Bool) wher
     pub second : spare' ≡ listed m.states (marks_after p m marks m.states)
 
   -- it is refused: both lists are as they were
-  pub record Unasked (e : RoundsFault) : Type 0 where
+  pub record SettleRefused (e : RoundsFault) : Type 0 where
     pub asked : lengths_fault m.states (length marks) (length spare) ≡ Some e
     pub first : marks' ≡ marks
     pub second : spare' ≡ spare
@@ -61,4 +61,4 @@ module _ (p : Preference) (m : Mdp) (marks spare marks' spare' : List Bool) wher
   abbrev pub Settling : Result (Option ℕ) RoundsFault → Type 0
   Settling (Ok (Some j)) = SettledAt j
   Settling (Ok None) = Unsettled
-  Settling (Err e) = Unasked e
+  Settling (Err e) = SettleRefused e

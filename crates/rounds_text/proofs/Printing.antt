@@ -11,7 +11,7 @@ use Rattle.rules.specs.declared.fault.PartFault.{PartFault}
 use Rattle.rules.specs.declared.fault.PartFault.TheVariants.{Units}
 use Rattle.rounds.specs.declared.fault.RoundsFault.{RoundsFault}
 use Rattle.rounds.specs.Refusals.{rounds_fault}
-use Rattle.rounds.specs.Runs.{Did, listed}
+use Rattle.rounds.specs.Runs.{RoundsRun, listed}
 use Rattle.rounds_text.specs.declared.fault.RequestFault.TheVariants.{Part, Rounds}
 use Rattle.rounds_text.specs.Numberings.{Numbering, values_made}
 use Rattle.rounds_text.specs.Refusals.{numbers_fault}
@@ -46,7 +46,7 @@ module _ {V : Type 0} (v : Numbering V) (m : Mdp) (numbers : List ℕ) where
         ∙ ap (option_map Rounds) (ap₂ (λ x y. rounds_fault m.states x y k) (sym long) (sym room) ∙ asked)
 
     -- the lists that rounds leave have the text that is defined
-    pub did_text : (preferred : V → V → Bool) (mix : ℕ → List (ℕ × V) → V) (first' second' : List V) → Did preferred mix m k first second first' second'
+    pub did_text : (preferred : V → V → Bool) (mix : ℕ → List (ℕ × V) → V) (first' second' : List V) → RoundsRun preferred mix m k first second first' second'
         → lists_text (map v.number first') (map v.number second') ≡ rounds_text v preferred mix m k numbers
     did_text preferred mix first' second' did =
         let here = did.first (v.value 0) in

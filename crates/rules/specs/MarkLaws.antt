@@ -6,7 +6,7 @@ use Rattle.rules.specs.declared.preference.Preference.{Preference}
 use Rattle.rules.specs.declared.preference.Preference.TheVariants.{Greater, Lesser}
 use Rattle.rules.specs.Marks.{prefers_mark}
 
--- with either preference
+-- marks keep the laws with either preference
 pub marks_lawful : (p : Preference) → RuleLaws (prefers_mark p) mix_marks
 marks_lawful Greater = marks_greater
 marks_lawful Lesser = marks_lesser

@@ -19,6 +19,7 @@ mutual
     conjunction : Formula → Formula → Formula
     probability : Comparison → ℕ → PathFormula → Formula
 
+  -- path formulas: next, until with steps, until without
   pub data PathFormula : Type 0 where
     next : Formula → PathFormula
     until_within : ℕ → Formula → Formula → PathFormula
@@ -44,6 +45,7 @@ abbrev mutual
   LawfulFormula (conjunction f g) = LawfulFormula f × LawfulFormula g
   LawfulFormula (probability c b p) = (b ≤ whole) × LawfulPath c b p
 
+  -- a lawful path formula under this comparison and bound
   pub LawfulPath : Comparison → ℕ → PathFormula → Type 0
   LawfulPath c b (next f) = LawfulFormula f
   LawfulPath c b (until_within k f g) = (k ≤ most_steps) × LawfulFormula f × LawfulFormula g
@@ -79,6 +81,7 @@ abbrev mutual
   Holds m (conjunction f g) s = Holds m f s × Holds m g s
   Holds m (probability c b p) s = PathHolds m c b p s
 
+  -- a path formula compares so with its bound, for every allowed adversary
   pub PathHolds : Mdp → Comparison → ℕ → PathFormula → ℕ → Type 0
   PathHolds m c b (next f) s = (set : ℕ → Bool) → SetOf m (Holds m f) set →
       (σ : Adversary) → Allowed m σ → Fits c (next_tally set m σ s * whole) (b * m.denominator ^ 1)

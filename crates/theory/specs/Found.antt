@@ -13,12 +13,12 @@ extremal_verdicts over_none m v w = record { sure = marked_set over_none v.sure 
 extremal_verdicts at_most_none m v w = record { sure = marked_set at_most_none v.possible w.possible m; possible = marked_set at_most_none v.sure w.sure m }
 extremal_verdicts at_least_whole m v w = record { sure = marked_set at_least_whole v.sure w.sure m; possible = marked_set at_least_whole v.possible w.possible m }
 
--- under any other bound none
+-- the verdicts of an until without steps under its bound; under any other bound it is a no everywhere
 abbrev pub until_verdicts : Option Extremal → Mdp → VerdictSets → VerdictSets → VerdictSets
 until_verdicts None m v w = known (λ s. false)
 until_verdicts (Some o) m v w = extremal_verdicts o m v w
 
--- part by part
+-- the verdicts that are found of a formula, from those of its parts
 abbrev mutual
   pub verdicts : Mdp → Formula → VerdictSets
   verdicts m truth = known (λ s. true)

@@ -32,7 +32,7 @@ harder_end at_most lo hi = hi
 harder_end above lo hi = lo
 harder_end at_least lo hi = lo
 
--- and the other one
+-- of a lower and an upper end, the one that fits the comparison more easily
 abbrev pub easier_end : Comparison → ℕ → ℕ → ℕ
 easier_end below lo hi = lo
 easier_end at_most lo hi = lo
@@ -99,6 +99,7 @@ abbrev mutual
   Judged m (conjunction f g) u = (v w : VerdictSets) × Judged m f v × Judged m g w × SameVerdicts m u (joined v w)
   Judged m (probability c b p) u = PathJudged m c b p u
 
+  -- u are the verdicts on a path formula under this comparison and bound
   pub PathJudged : Mdp → Comparison → ℕ → PathFormula → VerdictSets → Type 0
   PathJudged m c b (next f) u = (v : VerdictSets) × Judged m f v × SameVerdicts m u (next_verdicts c b m v)
   PathJudged m c b (until_within k f g) u = (v w : VerdictSets) × Judged m f v × Judged m g w × SameVerdicts m u (until_within_verdicts c b k m v w)

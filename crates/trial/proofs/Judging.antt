@@ -119,7 +119,7 @@ module _ (m : Mdp) (l : Lawful m) (text : List ℕ) (b : Buffers) (filled : List
       formula = f;
       reads = twice.reads;
       scratch_long = long;
-      out_long = states;
+      out_length = states;
       number = twice.number;
       left = ap (λ x. lent x (rows ++ drop (n * m.states) b.scratch) out) records_left
           ∙ ap (λ x. lent (over (counted_each m (parts f) (records 0 f)) b.records) x out) scratch_left

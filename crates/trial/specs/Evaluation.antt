@@ -37,7 +37,7 @@ verdicts_by Next m rows r = next_verdicts (comparison_of r.comparison) r.number 
 verdicts_by UntilWithin m rows r = until_within_verdicts (comparison_of r.comparison) r.number r.steps m (sets (row_at m.states rows r.first)) (sets (row_at m.states rows r.second))
 verdicts_by Until m rows r = until_verdicts (extremal (comparison_of r.comparison) r.number) m (sets (row_at m.states rows r.first)) (sets (row_at m.states rows r.second))
 
--- its row
+-- the row of a record, by the rows before it
 abbrev pub row_by : Mdp → List ℕ → Record → List ℕ
 row_by m rows r = bytes m.states (verdicts_by r.kind m rows r)
 

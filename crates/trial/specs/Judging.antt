@@ -66,7 +66,7 @@ pub record Accepted (m : Mdp) (text : List ℕ) (before after : Buffers) (n : �
   pub formula : Formula
   pub reads : Reads text (length before.records) formula
   pub scratch_long : size formula * m.states ≤ length before.scratch
-  pub out_long : length before.out ≡ m.states
+  pub out_length : length before.out ≡ m.states
   pub number : n ≡ size formula
   pub left : after ≡ judged m formula before
 

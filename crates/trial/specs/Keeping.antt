@@ -31,7 +31,7 @@ Kept m flags o = (t : QueryState) → o ≡ Some t → Keeps m flags t (query_in
 -- the query of these marks is in the fields, with no round made: both ends begin with the whole in right and 0 elsewhere
 pub record Begun (left right : List ℕ) (aim : Aim) (t : QueryState) : Type 0 where
   pub aimed : t.aim ≡ aim
-  pub unmoved : t.rounds ≡ 0
+  pub no_rounds : t.rounds ≡ 0
   pub left_marks : take (length left) t.left.values ≡ left
   pub right_marks : take (length right) t.right.values ≡ right
   pub lower : (d : Part) (s : ℕ) → s < length right → units_of (slice_index_or t.lower.values s d) ≡ start (marked right) s

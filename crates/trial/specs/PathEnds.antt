@@ -25,7 +25,7 @@ ends_of m (probability c b (until_within k f g)) =
     Some (lower (asked c) (verdicts m f).sure (verdicts m g).sure k m, upper (asked c) (verdicts m f).possible (verdicts m g).possible k m)
 ends_of m (probability c b (until f g)) = None
 
--- of the last of several formulas
+-- the ends of the last of several formulas
 abbrev pub ends_of_last : Mdp → List Formula → Option TwoEnds
 ends_of_last m [] = None
 ends_of_last m (f ∷ []) = ends_of m f
