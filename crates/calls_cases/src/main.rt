@@ -26,7 +26,8 @@ fn model_text(name: &str) -> &'static [u8] {
     }
 }
 
-// What is printed of a text of calls on a trial of a model.
+// What is printed of a text of calls on a trial of a model. States are held, calls made and answers printed by three public
+// calls one by one, as the command line does in its crate: one call of all three would promise three definitions at once.
 fn played(heap: Global, model: &[u8], text: &[u8]) -> Result<String, AllocError> {
     let mut tables = Tables::new(heap)?;
     if tables.load(model).is_err() {

@@ -4,13 +4,12 @@ use Rattle.std.specs.Result.{result_map_both}
 use Rattle.std.specs.Iterator.{Yields}
 use Rattle.std.specs.List.{list_any, flat_map, slice_split, enumerate_from}
 use Rattle.std.proofs.lemmas.Iterator.{YieldsList}
-use Rattle.std.proofs.lemmas.Iterator.Consumers.{YieldsList-turn, YieldsList-end}
 use Rattle.std.proofs.lemmas.List.{at_drop_more, drop_all, length-map}
 use Rattle.std.proofs.lemmas.List.Folds.{list_any-append}
 use Rattle.std.proofs.lemmas.Grind.{flat_map-append}
-use Rattle.std.proofs.lemmas.List.FromFn.{get_or-enumerate_from, length-enumerate_from}
 use Rattle.std.proofs.lemmas.Bool.Decides.{nat_tests}
 use Rattle.text.proofs.Cutting.{split_pieces}
+use Rattle.text.proofs.Parts.{next_part, no_part}
 use Rattle.calls_text.specs.declared.mistake.Wrong.{Wrong}
 use Rattle.calls_text.specs.declared.mistake.Mistake.{Mistake}
 use Rattle.calls_text.specs.declared.script.Script.{Script}
@@ -115,12 +114,9 @@ module _ {S : Type 0} {steps : S → Option (ℕ × Bor (List ℕ)) → S → Ty
   -- the part that it gets is the next line
   pub next_line : (i : ℕ) (part : Bor (List ℕ)) → got ≡ Some (i, part) → (i ≡ length xs) × (length xs < length (text_lines text)) × (part.now ≡ get_or (text_lines text) (length xs) part.now)
   next_line i part e =
-      let parts = slice_split (λ b. eqb b 10) text in
-      let next = YieldsList-turn each xs t yielded got u (i, part) e step in
-      let few : length xs < length parts = omega (arith, next.0, length-enumerate_from 0 parts) in
-      let same = next.1 ∙ get_or-enumerate_from 0 parts (length xs) (i, part.now) few in
-      (ap (λ p. p.0) same ∙ zero-add (length xs), rw (sym (split_pieces 10 text)) few, ap (λ p. p.1) same ∙ ap (λ ls. get_or ls (length xs) part.now) (split_pieces 10 text))
+      let next = next_part (slice_split (λ b. eqb b 10) text) each xs t yielded u got step i part e in
+      (next.0, rw (sym (split_pieces 10 text)) next.1, next.2 ∙ ap (λ ls. get_or ls (length xs) part.now) (split_pieces 10 text))
 
   -- where it gets none, it has had all lines
   pub no_line : got ≡ None → length xs ≡ length (text_lines text)
-  no_line e = (YieldsList-end each xs t yielded got u e step).1 ∙ length-enumerate_from 0 (slice_split (λ b. eqb b 10) text) ∙ ap length (split_pieces 10 text)
+  no_line e = no_part (slice_split (λ b. eqb b 10) text) each xs t yielded u got step e ∙ ap length (split_pieces 10 text)

@@ -11,10 +11,10 @@ use Rattle.formula_text.specs.Words.{judge_line}
 use Rattle.calls_text.specs.Refusals.{trial_refusal}
 use Rattle.calls_text.specs.RecordTexts.{row_text, record_lines}
 
--- the answer of a call that tells no more than that it was accepted
-abbrev pub done_text : Result (Unit {0}) TrialFault → List ℕ
-done_text (Ok _) = codes "ok\n"
-done_text (Err e) = trial_refusal e
+-- the answer of a call that tells no more than that it was accepted; the first argument says what is printed of a fault
+abbrev pub done_text : {F : Type 0} → (F → List ℕ) → Result (Unit {0}) F → List ℕ
+done_text refused (Ok _) = codes "ok\n"
+done_text refused (Err e) = refused e
 
 -- a lower and an upper end in units, and after how many rounds
 abbrev pub pair_text : Part × Part × ℕ → List ℕ

@@ -6,11 +6,11 @@ use Rattle.layers.specs.declared.fault.HoldFault.{HoldFault}
 use Rattle.layers.specs.declared.fault.HoldFault.TheVariants.{Held}
 use Rattle.layers.specs.Holds.{held}
 use Rattle.printing.specs.Words.{hold_refusal}
+use Rattle.calls_text.specs.AnswerTexts.{done_text}
 
 -- what is printed of holding a state, by the answer
 abbrev pub hold_text : Result (Unit {0}) HoldFault → List ℕ
-hold_text (Ok _) = codes "ok\n"
-hold_text (Err e) = hold_refusal e ++ codes "\n"
+hold_text a = done_text (λ e. hold_refusal e ++ codes "\n") a
 
 -- what holding the state s of n answers: is there such a state?
 abbrev pub hold_answer : ℕ → ℕ → Result (Unit {0}) HoldFault

@@ -1,4 +1,5 @@
 pub mod Words
+pub mod Unplayed
 pub mod Requests
 pub mod Texts
 pub mod Readings

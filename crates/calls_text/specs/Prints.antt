@@ -5,6 +5,7 @@ use Rattle.trial.specs.declared.fault.TrialFault.{TrialFault}
 use Rattle.replay.specs.declared.call.Call.{Call}
 use Rattle.replay.specs.declared.call.Call.TheVariants.{Start, Advance, Ends, Verdict, Judge}
 use Rattle.calls_text.specs.declared.print.Kept.{Kept}
+use Rattle.calls_text.specs.Refusals.{trial_refusal}
 use Rattle.calls_text.specs.AnswerTexts.{done_text, ends_text, verdict_text, judge_text}
 
 -- what is printed of ends that were kept until now
@@ -26,8 +27,8 @@ other_ends s (Some k) = cond (k.state == s) None (Some k)
 -- call that is not played; a verdict is printed with the ends of its state that were answered just before it
 abbrev pub printed : ℕ → Option Kept → List Call → List ℕ
 printed n k [] = kept_text k
-printed n k (Start left right aim (Some a) ∷ cs) = kept_text k ++ (done_text a ++ printed n None cs)
-printed n k (Advance count (Some a) ∷ cs) = kept_text k ++ (done_text a ++ printed n None cs)
+printed n k (Start left right aim (Some a) ∷ cs) = kept_text k ++ (done_text trial_refusal a ++ printed n None cs)
+printed n k (Advance count (Some a) ∷ cs) = kept_text k ++ (done_text trial_refusal a ++ printed n None cs)
 printed n k (Ends s (Some a) ∷ cs) = kept_text k ++ printed n (Some (record { state = s; answer = a })) cs
 printed n k (Verdict s comparison bound (Some a) ∷ cs) = kept_text (other_ends s k) ++ (verdict_text (own_ends s k) a ++ printed n None cs)
 printed n k (Judge text records scratch out (Some a) ∷ cs) = kept_text k ++ (judge_text n records.items scratch.items out.items a ++ printed n None cs)

@@ -15,6 +15,10 @@ trial_words State = codes "there is no such state; states are numbered from 0 to
 trial_words Bound = codes "a bound is at most 1000000000, which is the whole; lower it"
 trial_words Aim = codes "< and <= are decided by a query for the best, > and >= by one for the worst; start the other query, or change the comparison"
 
--- the line of a refused call: the fault's number and its words
+-- what is printed of a refusal with this number and these words: its line, with a line feed
+abbrev pub refused_text : ℕ → List ℕ → List ℕ
+refused_text number words = refusal_line number words ++ codes "\n"
+
+-- what is printed of a refused call
 abbrev pub trial_refusal : TrialFault → List ℕ
-trial_refusal e = refusal_line (fault_number e) (trial_words e) ++ codes "\n"
+trial_refusal e = refused_text (fault_number e) (trial_words e)

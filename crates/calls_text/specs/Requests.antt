@@ -1,5 +1,5 @@
 -- What a line of a text of calls asks for.
-use Rattle.std.specs.Prelude.{ℕ, ◌*◌, Bool, true, cond, ◌&&◌, List, Some, None, is_none, Err, Option, Result, ◌==◌, nat_le, replicate, option_and_then, ok_or}
+use Rattle.std.specs.Prelude.{ℕ, ◌*◌, cond, ◌&&◌, List, Some, None, Err, Option, Result, ◌==◌, nat_le, replicate, option_and_then, ok_or}
 use Rattle.std.specs.Option.{option_map}
 use Rattle.std.specs.Result.{result_map_both}
 use Rattle.records.specs.declared.comparison.Comparison.{Comparison}
@@ -43,7 +43,7 @@ pub data Asked : Type 0 where
 -- what a request of the code asks for
 abbrev pub asked : Request → Asked
 asked (request.Hold state) = hold state
-asked (request.Play call) = play (given call)
+asked (request.Play unplayed) = play (given unplayed.call)
 
 infixl 10 ◌>>=◌
 -- a value that is there goes on
@@ -119,16 +119,3 @@ line_read n line = kind_read (kind_of (word 0 line)) n line
 -- what a line that was read asks for
 abbrev pub asked_of : Result Request Wrong → Result Asked Wrong
 asked_of r = result_map_both asked (λ w. w) r
-
--- has the call no answer yet?
-abbrev pub unplayed : Call → Bool
-unplayed (call.Start left right aim answer) = is_none answer
-unplayed (call.Advance count answer) = is_none answer
-unplayed (call.Ends state answer) = is_none answer
-unplayed (call.Verdict state comparison bound answer) = is_none answer
-unplayed (call.Judge text records scratch out answer) = is_none answer
-
--- is it asked that a state is held, or that a call is played which has no answer yet?
-abbrev pub unanswered : Request → Bool
-unanswered (request.Hold state) = true
-unanswered (request.Play call) = unplayed call

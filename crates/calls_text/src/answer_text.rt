@@ -1,9 +1,11 @@
 ghost use Rattle.std.specs.Prelude.{◌≡◌, Some, IfOk, string_bytes, vec_items};
+ghost use Rattle.calls_text.specs.Refusals.{refused_text};
 ghost use Rattle.calls_text.specs.AnswerTexts.{done_text, pair_text, ends_text, verdict_word, told_ends, verdict_text, judge_text};
 
 use crate::record_text::{Row, record_lines};
-use crate::refusals::trial_refusal;
+use crate::refusals::{Told, refused_text};
 use formula_text::words::judge_line;
+use printing::words::Refusal;
 use records::fault::JudgeFault;
 use records::record::Record;
 use rules::part::Part;
@@ -12,13 +14,17 @@ use std::fmt;
 use trial::fault::TrialFault;
 use trial::verdict::Verdict;
 
-// What is printed of a call that answers no more than that it was accepted.
-pub(crate) fn done_text(heap: Global, answer: Result<(), TrialFault>) -> Result<String, AllocError>
-    ensures { IfOk result (λ s. string_bytes s ≡ done_text answer) }
+// What is printed where no more is answered than that a call, or a state to be held, was accepted. Here and below a heap and an
+// answer stay two arguments: the heap goes to whatever wants memory, and tells nothing of an answer.
+pub(crate) fn done_text<F: Refusal + Copy>(
+    heap: Global,
+    answer: Result<(), F>,
+) -> Result<String, AllocError>
+    ensures { IfOk result (λ s. string_bytes s ≡ done_text (λ f. refused_text (F.number f) (F.words f)) answer) }
 {
     match answer {
         Ok(()) => String::from_str(heap, "ok\n"),
-        Err(fault) => trial_refusal(heap, fault),
+        Err(fault) => refused_text(heap, &fault),
     }
 }
 
@@ -49,7 +55,7 @@ pub(crate) fn ends_text(
             let pair = Pair(ends);
             format!(in heap; "ends{pair}\n")
         }
-        Err(fault) => trial_refusal(heap, fault),
+        Err(fault) => refused_text(heap, &Told(fault)),
     }
 }
 
@@ -96,7 +102,7 @@ pub(crate) fn verdict_text(
             let ends = ToldEnds(ends);
             format!(in heap; "verdict {word}{ends}\n")
         }
-        Err(fault) => trial_refusal(heap, fault),
+        Err(fault) => refused_text(heap, &Told(fault)),
     }
 }
 

@@ -1,25 +1,11 @@
 ghost use Rattle.std.specs.Prelude.{◌≡◌, IfOk, OnOk, string_bytes};
 ghost use Rattle.layers.specs.Holds.{held_model};
-ghost use Rattle.calls_text.specs.Holdings.{hold_text, holds_text, all_held};
+ghost use Rattle.calls_text.specs.Holdings.{holds_text, all_held};
 
-use layers::fault::HoldFault;
+use crate::answer_text::done_text;
 use layers::hold::Hold;
 use model::source::Source;
-use printing::words::refusal_line;
 use std::alloc::{AllocError, Global};
-
-// What is printed of holding a state.
-fn hold_text(heap: Global, answer: Result<(), HoldFault>) -> Result<String, AllocError>
-    ensures { IfOk result (λ s. string_bytes s ≡ hold_text answer) }
-{
-    match answer {
-        Ok(()) => String::from_str(heap, "ok\n"),
-        Err(fault) => {
-            let line = refusal_line(heap, &fault)?;
-            format!(in heap; "{line}\n")
-        }
-    }
-}
 
 // Holds states of the layer in turn, and prints what came of each.
 pub fn hold_states<S: Source>(
@@ -33,7 +19,7 @@ pub fn hold_states<S: Source>(
 {
     let mut out = String::new(heap);
     for state in states {
-        let text = hold_text(heap, layer.hold(*state))?;
+        let text = done_text(heap, layer.hold(*state))?;
         out.push_str(text.as_str())?;
     }
     Ok(out)

@@ -1,5 +1,8 @@
-ghost use Rattle.std.specs.Prelude.{◌≡◌};
-ghost use Rattle.calls_text.specs.Words.{kind_name, kind_of};
+ghost use Rattle.std.specs.Prelude.{◌≡◌, ok_or};
+ghost use Rattle.calls_text.specs.declared.mistake.Wrong.TheVariants.{Word};
+ghost use Rattle.calls_text.specs.Words.{kind_of};
+
+use crate::mistake::Wrong;
 
 // What a line asks for, by its first word: that a state is held, or one of the calls of a trial.
 #[derive(Clone, Copy, PartialEq, Eq, Debug)]
@@ -12,36 +15,22 @@ pub enum LineKind {
     Judge,
 }
 
-// All of them.
-const LINE_KINDS: [LineKind; 6] = [
-    LineKind::Hold,
-    LineKind::Start,
-    LineKind::Advance,
-    LineKind::Ends,
-    LineKind::Verdict,
-    LineKind::Judge,
-];
+// The kind of a line, by the word that it begins with; any other word is wrong.
+impl<'a> TryFrom<&'a [u8]> for LineKind {
+    type Error = Wrong;
 
-impl LineKind {
-    // The word that it begins with.
-    pub(crate) fn name(self) -> &'static [u8]
-        ensures { result.now ≡ kind_name self }
-    {
-        match self {
-            LineKind::Hold => b"hold",
-            LineKind::Start => b"start",
-            LineKind::Advance => b"advance",
-            LineKind::Ends => b"ends",
-            LineKind::Verdict => b"verdict",
-            LineKind::Judge => b"judge",
+    ghost try_from_gives = { λ word r. r ≡ ok_or (kind_of word.now) Word };
+
+    #[tactic(auto, using(crate::proofs::Spellings::spelled))]
+    fn try_from(word: &'a [u8]) -> Result<LineKind, Wrong> {
+        match word {
+            b"hold" => Ok(LineKind::Hold),
+            b"start" => Ok(LineKind::Start),
+            b"advance" => Ok(LineKind::Advance),
+            b"ends" => Ok(LineKind::Ends),
+            b"verdict" => Ok(LineKind::Verdict),
+            b"judge" => Ok(LineKind::Judge),
+            _ => Err(Wrong::Word),
         }
     }
-}
-
-// The kind of a line that begins with this word. Words are read by functions in this crate: comparisons and aims are of other
-// crates, and no impl for them can stand here; for all alike the caller tells what is wrong where a word says nothing.
-pub(crate) fn kind_of(word: &[u8]) -> Option<LineKind>
-    ensures { result ≡ kind_of word.now }
-{
-    LINE_KINDS.iter().find(|kind| word == kind.name()).copied()
 }

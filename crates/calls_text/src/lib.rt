@@ -16,4 +16,5 @@ mod request;
 pub mod script;
 mod signs;
 mod sizes;
+mod unplayed;
 mod words;

@@ -1,9 +1,10 @@
-ghost use Rattle.std.specs.Prelude.{◌≡◌, ◌∷◌, ◌++◌, List, None, IfOk, OnOk, string_bytes};
+ghost use Rattle.std.specs.Prelude.{◌≡◌, ℕ, ◌∷◌, ◌++◌, List, None, IfOk, OnOk, string_bytes};
 ghost use Rattle.replay.specs.declared.call.Call.{Call as Calls};
 ghost use Rattle.replay.specs.declared.call.Call.TheVariants.{Ends};
 ghost use Rattle.calls_text.specs.Prints.{kept_text, own_ends, other_ends, printed};
 
 use crate::answer_text::{done_text, ends_text, judge_text, verdict_text};
+use crate::refusals::Told;
 use model::source::Source;
 use replay::call::Call;
 use rules::part::Part;
@@ -18,12 +19,11 @@ pub(crate) struct Kept {
     pub(crate) answer: Result<(Part, Part, u64), TrialFault>,
 }
 
-// A printer of the answers of calls over so many states. The last ends are kept back with their state until the next call: a
-// verdict at that state is told with them.
+// A printer of the answers of calls. The last ends are kept back with their state until the next call: a verdict at that state
+// is told with them.
 #[derive(Drop)]
 struct Printer {
     heap: Global,
-    states: usize,
     out: String,
     kept: Option<Kept>,
 }
@@ -33,12 +33,10 @@ impl Printer {
     fn tell(&mut self, text: &str) -> Result<(), AllocError>
         ensures out { OnOk result (string_bytes self.new.out ≡ string_bytes self.old.out ++ (kept_text self.old.kept ++ text.now)) }
         ensures kept { OnOk result (self.new.kept ≡ None) }
-        ensures states { self.new.states ≡ self.old.states }
     {
-        if let Some(kept) = self.kept {
+        if let Some(kept) = self.kept.take() {
             let ends = ends_text(self.heap, kept.answer)?;
             self.out.push_str(ends.as_str())?;
-            self.kept = None;
         }
         self.out.push_str(text)?;
         Ok(())
@@ -49,7 +47,6 @@ impl Printer {
         ensures ends { result ≡ own_ends state self.old.kept }
         ensures kept { self.new.kept ≡ other_ends state self.old.kept }
         ensures out { self.new.out ≡ self.old.out }
-        ensures states { self.new.states ≡ self.old.states }
     {
         match self.kept {
             Some(kept) if kept.state == state => {
@@ -66,8 +63,7 @@ impl Printer {
         state: usize,
         answer: Option<Result<(Part, Part, u64), TrialFault>>,
     ) -> Result<(), AllocError>
-        ensures out { OnOk result ((calls : List Calls) → string_bytes self.new.out ++ printed self.old.states self.new.kept calls ≡ string_bytes self.old.out ++ printed self.old.states self.old.kept (Ends state answer ∷ calls)) }
-        ensures states { self.new.states ≡ self.old.states }
+        ensures { OnOk result ((n : ℕ) (calls : List Calls) → string_bytes self.new.out ++ printed n self.new.kept calls ≡ string_bytes self.old.out ++ printed n self.old.kept (Ends state answer ∷ calls)) }
     {
         if let Some(answer) = answer {
             self.tell("")?;
@@ -76,10 +72,9 @@ impl Printer {
         Ok(())
     }
 
-    // Tells what a call answered. A call that is not played has nothing to tell.
-    fn call(&mut self, call: &Call) -> Result<(), AllocError>
-        ensures out { OnOk result ((calls : List Calls) → string_bytes self.new.out ++ printed self.old.states self.new.kept calls ≡ string_bytes self.old.out ++ printed self.old.states self.old.kept (call.now ∷ calls)) }
-        ensures states { self.new.states ≡ self.old.states }
+    // Tells what a call over so many states answered. A call that is not played has nothing to tell.
+    fn call(&mut self, states: usize, call: &Call) -> Result<(), AllocError>
+        ensures { OnOk result ((calls : List Calls) → string_bytes self.new.out ++ printed states self.new.kept calls ≡ string_bytes self.old.out ++ printed states self.old.kept (call.now ∷ calls)) }
     {
         match call {
             Call::Start {
@@ -90,7 +85,7 @@ impl Printer {
                 answer: Some(answer),
                 ..
             } => {
-                let text = done_text(self.heap, *answer)?;
+                let text = done_text(self.heap, answer.map_err(Told))?;
                 self.tell(text.as_str())
             }
             Call::Ends { state, answer } => self.keep(*state, *answer),
@@ -112,7 +107,7 @@ impl Printer {
             } => {
                 let text = judge_text(
                     self.heap,
-                    self.states,
+                    states,
                     records.as_slice(),
                     scratch.as_slice(),
                     out.as_slice(),
@@ -133,14 +128,14 @@ pub fn answers_text<S: Source>(
 ) -> Result<String, AllocError>
     ensures { IfOk result (λ s. string_bytes s ≡ printed (S.Source.model source.now).states None calls.now) }
 {
+    let states = source.states();
     let mut printer = Printer {
         heap,
-        states: source.states(),
         out: String::new(heap),
         kept: None,
     };
     for call in calls {
-        printer.call(call)?;
+        printer.call(states, call)?;
     }
     printer.tell("")?;
     Ok(printer.out)

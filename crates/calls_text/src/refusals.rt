@@ -1,6 +1,6 @@
 ghost use Rattle.std.specs.Prelude.{◌≡◌, IfOk, string_bytes};
 ghost use Rattle.trial.specs.Faults.{fault_number};
-ghost use Rattle.calls_text.specs.Refusals.{trial_words, trial_refusal};
+ghost use Rattle.calls_text.specs.Refusals.{trial_words, refused_text};
 
 use printing::words::{Refusal, refusal_line};
 use std::alloc::{AllocError, Global};
@@ -8,7 +8,7 @@ use trial::fault::TrialFault;
 
 // A trial's fault, to be told: the fault and the trait are of other crates.
 #[derive(Clone, Copy)]
-struct Told(TrialFault);
+pub(crate) struct Told(pub(crate) TrialFault);
 
 impl Refusal for Told {
     ghost number = { λ f. fault_number f.0 };
@@ -43,10 +43,10 @@ impl Refusal for Told {
     }
 }
 
-// The line of a refused call.
-pub(crate) fn trial_refusal(heap: Global, fault: TrialFault) -> Result<String, AllocError>
-    ensures { IfOk result (λ s. string_bytes s ≡ trial_refusal fault) }
+// What is printed of a refusal: its line, with a line feed.
+pub(crate) fn refused_text<F: Refusal>(heap: Global, fault: &F) -> Result<String, AllocError>
+    ensures { IfOk result (λ s. string_bytes s ≡ refused_text (F.number fault.now) (F.words fault.now)) }
 {
-    let line = refusal_line(heap, &Told(fault))?;
+    let line = refusal_line(heap, fault)?;
     format!(in heap; "{line}\n")
 }

@@ -1,10 +1,11 @@
 ghost use Rattle.std.specs.Prelude.{◌≡◌, true};
 ghost use Rattle.std.specs.List.{list_all};
-ghost use Rattle.calls_text.specs.Requests.{unplayed};
+ghost use Rattle.calls_text.specs.Unplayed.{unplayed};
 
 use crate::line::Line;
 use crate::mistake::Wrong;
 use crate::request::Request;
+use crate::unplayed::Unplayed;
 use crate::words::is_passed_over;
 use replay::call::Call;
 use std::alloc::{AllocError, Global};
@@ -20,7 +21,7 @@ pub struct Script {
 
 impl Script {
     ghost use Rattle.std.specs.Prelude.{[], ◌∷◌, IfOk, OnOk};
-    ghost use Rattle.calls_text.specs.Requests.{asked, play, given, unanswered};
+    ghost use Rattle.calls_text.specs.Requests.{asked, play, given};
     ghost use Rattle.calls_text.specs.Readings.{Adds, AskedAdded, LineAdded};
 
     // A script that asks for nothing.
@@ -35,10 +36,10 @@ impl Script {
     }
 
     // Adds a call, and before a verdict the ends.
-    fn add_call(&mut self, call: Call) -> Result<(), AllocError>
-        requires { unplayed call ≡ true }
-        ensures { OnOk result (Adds self.old self.new (play (given call) ∷ [])) }
+    fn add_call(&mut self, unplayed: Unplayed) -> Result<(), AllocError>
+        ensures { OnOk result (Adds self.old self.new (play (given unplayed.call) ∷ [])) }
     {
+        let Unplayed { call } = unplayed;
         if let Call::Verdict { state, .. } = call {
             self.calls.push(Call::Ends {
                 state,
@@ -51,7 +52,6 @@ impl Script {
 
     // Adds what a line asks for, unless it holds a state after a call.
     fn add(&mut self, request: Request) -> Result<Result<(), Wrong>, AllocError>
-        requires { unanswered request ≡ true }
         ensures { IfOk result (AskedAdded (asked request) self.old self.new) }
     {
         match request {
@@ -61,7 +61,7 @@ impl Script {
                 }
                 self.holds.push(state)?;
             }
-            Request::Play(call) => self.add_call(call)?,
+            Request::Play(unplayed) => self.add_call(unplayed)?,
         }
         Ok(Ok(()))
     }

@@ -14,7 +14,8 @@ const COMPARISONS: [Comparison; 4] = [
     Comparison::AtLeast,
 ];
 
-// How a comparison is written.
+// How a comparison is written. Comparisons and aims are of other crates, as `Display` and `TryFrom` are, so no such impl of them
+// can stand here: functions write and read them.
 pub(crate) fn sign(comparison: Comparison) -> &'static str
     ensures { result.now ≡ sign (meant comparison) }
 {
@@ -26,7 +27,7 @@ pub(crate) fn sign(comparison: Comparison) -> &'static str
     }
 }
 
-// The comparison that a word writes, if it does. It and an aim are of other crates, so no impl for them can stand here.
+// The comparison that a word writes, if it does. How each is written stands in this crate once, in `sign`.
 pub(crate) fn comparison_of(word: &[u8]) -> Option<Comparison>
     ensures { result ≡ comparison_of word.now }
 {
@@ -37,12 +38,13 @@ pub(crate) fn comparison_of(word: &[u8]) -> Option<Comparison>
 }
 
 // What a query asks for, by its word, if it is one.
-#[tactic(auto, using(crate::proofs::Spellings::compared))]
+#[tactic(auto, using(crate::proofs::Spellings::spelled))]
 pub(crate) fn aim_of(word: &[u8]) -> Option<Aim>
     ensures { result ≡ aim_of word.now }
 {
-    if word == b"best".as_slice() {
-        return Some(Aim::Best);
+    match word {
+        b"best" => Some(Aim::Best),
+        b"worst" => Some(Aim::Worst),
+        _ => None,
     }
-    (word == b"worst".as_slice()).then_some(Aim::Worst)
 }

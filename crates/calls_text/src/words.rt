@@ -11,7 +11,8 @@ pub(crate) fn is_passed_over(line: &[u8]) -> bool
     matches!(line, [] | [b'#', ..])
 }
 
-// A word of a line, from 0: one blank parts two words. Empty where there is none.
+// A word of a line, from 0: one blank parts two words. Empty where there is none. The definitions name the words of a line by
+// number, and so does the code: each is asked for but once, and a list of them would want memory for each line.
 pub(crate) fn word(line: &[u8], index: usize) -> &[u8]
     ensures { result.now ≡ word index line.now }
 {

@@ -7,12 +7,14 @@ mod report;
 
 use escapes::expand;
 use printing::listing::totals;
-use report::{counts, refused, writes};
+use printing::words::Refused;
+use report::{counts, writes};
 use std::io;
 use std::io::{BufRead, BufReader};
 use tables::tables::Tables;
 
-// Tries one case: the text is loaded, and what the table then writes must be `kept`, the text that it holds.
+// Tries one case: the text is loaded, and what the table then writes must be `kept`, the text that it holds. Here and in the
+// report `tables` and a text are two arguments: the one table is lent to all cases, and each case has a text of its own.
 fn tried(
     rt: &HostRuntime,
     tables: &mut Tables,
@@ -27,7 +29,7 @@ fn tried(
             text,
             "the same",
         ),
-        Err(fault) => (refused(heap, fault)?, kept, "as before"),
+        Err(fault) => (format!(in heap; "{}", Refused(fault))?, kept, "as before"),
     };
     let bytes = held.len();
     let right = if writes(heap, tables, held.as_slice())? {

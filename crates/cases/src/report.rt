@@ -1,7 +1,6 @@
 use printing::totals::Totals;
 use std::alloc::{AllocError, Global};
 use tables::tables::Tables;
-use text::fault::{FieldPlace, FileFault};
 
 // The totals of a source, in one line.
 pub(crate) fn counts(heap: Global, totals: Totals) -> Result<String, AllocError> {
@@ -15,18 +14,6 @@ pub(crate) fn counts(heap: Global, totals: Totals) -> Result<String, AllocError>
     format!(in heap;
         "ok states {states} denominator {denominator} choices {choices} branches {branches}"
     )
-}
-
-// What a fault tells.
-pub(crate) fn refused(heap: Global, fault: FileFault) -> Result<String, AllocError> {
-    let number = fault.number();
-    let line = fault.line();
-    match fault.field() {
-        Some(FieldPlace { field, length }) => format!(in heap;
-            "refused {number} line {line} field {field} length {length}"
-        ),
-        None => format!(in heap; "refused {number} line {line}"),
-    }
 }
 
 // Are all bytes still those that the buffer was made with?

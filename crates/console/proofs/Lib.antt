@@ -1,2 +1,3 @@
 pub mod Ladders
+pub mod Parts
 pub mod Returning

@@ -23,23 +23,27 @@ use Rattle.console.specs.declared.command.RoundsMistake.TheVariants.{TooFew, NoR
 use Rattle.console.specs.declared.command.Command.{Command}
 use Rattle.console.specs.declared.command.Command.TheVariants.{Help, Print, Rounds, Formula, Trial, Check}
 
--- the command that a word spells: `show` prints a listing, and `write` the model text
-abbrev pub verb_of : List ℕ → Option Verb
+-- the command that a word spells, if it spells one: `show` prints a listing, and `write` the model text
+abbrev pub verb_of : List ℕ → Result Verb Mistake
 verb_of w =
-    cond (bytes_eq w (codes "show")) (Some (verb.Print Listing))
-    (cond (bytes_eq w (codes "write")) (Some (verb.Print Text))
-    (cond (bytes_eq w (codes "rounds")) (Some verb.Rounds)
-    (cond (bytes_eq w (codes "formula")) (Some verb.Formula)
-    (cond (bytes_eq w (codes "trial")) (Some verb.Trial)
-    (cond (bytes_eq w (codes "check")) (Some verb.Check) (cond (bytes_eq w (codes "help")) (Some verb.Help) None))))))
+    cond (bytes_eq w (codes "show")) (Ok (verb.Print Listing))
+    (cond (bytes_eq w (codes "write")) (Ok (verb.Print Text))
+    (cond (bytes_eq w (codes "rounds")) (Ok verb.Rounds)
+    (cond (bytes_eq w (codes "formula")) (Ok verb.Formula)
+    (cond (bytes_eq w (codes "trial")) (Ok verb.Trial)
+    (cond (bytes_eq w (codes "check")) (Ok verb.Check) (cond (bytes_eq w (codes "help")) (Ok verb.Help) (Err NoSuchCommand)))))))
 
 -- is a model's name that of a ladder? It begins with `ladder:` (a colon is 58)
 abbrev pub names_ladder : List ℕ → Bool
 names_ladder name = same (piece 58 0 name) (codes "ladder") && nat_lt 1 (length (pieces 58 name))
 
+-- the number that a word writes, if it is one
+abbrev pub number_of : List ℕ → Option ℕ
+number_of word = cond (lawful_number word) (Some (amount word)) None
+
 -- the number that part k of a name writes, if it is one
 abbrev pub part : ℕ → List ℕ → Option ℕ
-part k name = cond (lawful_number (piece 58 k name)) (Some (amount (piece 58 k name))) None
+part k name = number_of (piece 58 k name)
 
 -- the ladder of three numbers, if they are there
 abbrev pub ladder_of : Option ℕ → Option ℕ → Option ℕ → Option ModelName
@@ -52,9 +56,9 @@ ladder_of (Some r) (Some d) (Some w) = Some (Ladder (record { rungs = r; denomin
 abbrev pub ladder_named : List ℕ → Option ModelName
 ladder_named name = cond (length (pieces 58 name) == 4) (ladder_of (part 1 name) (part 2 name) (part 3 name)) None
 
--- the model that a name gives: a ladder, or the file at this path
-abbrev pub model_named : List ℕ → Option ModelName
-model_named name = cond (names_ladder name) (ladder_named name) (Some File)
+-- the model that a name gives, if it gives one: a ladder, or the file at this path
+abbrev pub model_named : List ℕ → Result ModelName Mistake
+model_named name = cond (names_ladder name) (ok_or (ladder_named name) NoLadder) (Ok File)
 
 -- the rule that a word names
 abbrev pub kind_of : List ℕ → Option Kind
@@ -74,9 +78,9 @@ help_asked [] = Ok Help
 help_asked (w ∷ ws) = Err TooMany
 
 -- the printing of a model that is named
-abbrev pub print_of : Form → Option ModelName → Result Command Mistake
-print_of form None = Err NoLadder
-print_of form (Some m) = Ok (Print form m)
+abbrev pub print_of : Form → Result ModelName Mistake → Result Command Mistake
+print_of form (Err e) = Err e
+print_of form (Ok m) = Ok (Print form m)
 
 -- what the words after `show` or `write` ask for: MODEL
 abbrev pub print_asked : Form → List (List ℕ) → Result Command Mistake
@@ -85,12 +89,12 @@ print_asked form (name ∷ []) = print_of form (model_named name)
 print_asked form (name ∷ w ∷ ws) = Err TooMany
 
 -- rounds on a model, by a rule, a preference and a number, if they are there
-abbrev pub rounds_of : Option ModelName → Option Kind → Option Preference → Option ℕ → Result Command Mistake
-rounds_of None kind p k = Err NoLadder
-rounds_of (Some m) None p k = Err (mistake.Rounds NoRule)
-rounds_of (Some m) (Some kind) None k = Err (mistake.Rounds NoPreference)
-rounds_of (Some m) (Some kind) (Some p) None = Err (mistake.Rounds NoCount)
-rounds_of (Some m) (Some kind) (Some p) (Some k) = Ok (Rounds m (record { kind = kind; preference = p; count = k }))
+abbrev pub rounds_of : Result ModelName Mistake → Option Kind → Option Preference → Option ℕ → Result Command Mistake
+rounds_of (Err e) kind p k = Err e
+rounds_of (Ok m) None p k = Err (mistake.Rounds NoRule)
+rounds_of (Ok m) (Some kind) None k = Err (mistake.Rounds NoPreference)
+rounds_of (Ok m) (Some kind) (Some p) None = Err (mistake.Rounds NoCount)
+rounds_of (Ok m) (Some kind) (Some p) (Some k) = Ok (Rounds m (record { kind = kind; preference = p; count = k }))
 
 -- what the words after `rounds` ask for: MODEL, RULE, PREFERENCE and COUNT; VALUES are read later
 abbrev pub rounds_asked : List (List ℕ) → Result Command Mistake
@@ -108,7 +112,7 @@ formula_asked (text ∷ w ∷ ws) = Err TooMany
 abbrev pub model_and_file : Mistake → List (List ℕ) → Result ModelName Mistake
 model_and_file missing words =
     cond (length words == 0) (Err NoModel)
-    (cond (length words == 1) (Err missing) (cond (nat_lt 2 (length words)) (Err TooMany) (ok_or (model_named (word_at 0 words)) NoLadder)))
+    (cond (length words == 1) (Err missing) (cond (nat_lt 2 (length words)) (Err TooMany) (model_named (word_at 0 words))))
 
 -- what a command and the words after it ask for
 abbrev pub asked : Verb → List (List ℕ) → Result Command Mistake
@@ -120,9 +124,9 @@ asked verb.Trial words = result_map_both Trial (λ m. m) (model_and_file NoCalls
 asked verb.Check words = result_map_both Check (λ m. m) (model_and_file NoLimits words)
 
 -- the same of a word that may spell no command
-abbrev pub asked_by : Option Verb → List (List ℕ) → Result Command Mistake
-asked_by None words = Err NoSuchCommand
-asked_by (Some v) words = asked v words
+abbrev pub asked_by : Result Verb Mistake → List (List ℕ) → Result Command Mistake
+asked_by (Err e) words = Err e
+asked_by (Ok v) words = asked v words
 
 -- what the words of the command line, after the program's name, ask for
 abbrev pub command_of : List (List ℕ) → Result Command Mistake

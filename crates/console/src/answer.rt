@@ -4,9 +4,10 @@ ghost use Rattle.limits_text.specs.Lists.{Writes};
 ghost use Rattle.console.specs.Commands.{command_of};
 ghost use Rattle.console.specs.Replies.{answer_of, Answers, FormulaTextAnswer, path_wanted};
 
-use crate::check_reply::Limits;
+use crate::check_reply::{Limits, Writers};
 use crate::command::{Command, ModelName};
 use crate::form::print_reply;
+use crate::given::GivenFile;
 use crate::help::{help_text, mistake_text};
 use crate::named::Named;
 use crate::parse::{command, word_at};
@@ -31,7 +32,7 @@ fn formula_reply(heap: Global, text: &[u8]) -> Result<Reply, AllocError>
 
 // The path of the file with this number that the words of the command line want read. File 0 is that of the model, and file 1
 // that of the calls of a trial or of a list of limits: files are counted in the order in which they are read, and a caller asks
-// for one after another.
+// for one after another. It is a number and no enum: any number may be asked for, and a type of the two would ask more of callers.
 pub fn path(args: &[String], file: usize) -> Option<&str>
     ensures { option_map (λ x. x.now) result ≡ path_wanted (command_of (map string_bytes args.now)) file (map string_bytes args.now) }
 {
@@ -63,29 +64,22 @@ pub fn reply<W: Write, P: Write>(
 ) -> io::Result<Reply>
     ensures { IfOk result (λ a. Writes (λ w. Answers (map string_bytes args.now) (option_map (λ x. x.now) file.entry) (option_map (λ x. x.now) second.entry) w (answer_of a)) (W.Write.contents out.old) (W.Write.contents out.new) (P.Write.contents progress.old) (P.Write.contents progress.new)) }
 {
-    let (path, other) = (word_at(args, 1), word_at(args, 2));
+    let path = word_at(args, 1);
+    let file = GivenFile { path, bytes: file };
+    let other = GivenFile {
+        path: word_at(args, 2),
+        bytes: second,
+    };
     match command(args) {
         Ok(Command::Help) => Ok(Reply::printed(String::from_str(heap, help_text())?)),
-        Ok(Command::Print(form, name)) => {
-            Ok(print_reply(heap, form, &Named { name, path, file })?)
-        }
+        Ok(Command::Print(form, name)) => Ok(print_reply(heap, form, &Named { name, file })?),
         Ok(Command::Rounds(name, request)) => {
-            Ok(rounds_reply(heap, request, &Named { name, path, file }, args)?)
+            Ok(rounds_reply(heap, request, &Named { name, file }, args)?)
         }
         Ok(Command::Formula) => Ok(formula_reply(heap, path.as_bytes())?),
-        Ok(Command::Trial(name)) => {
-            let calls = Calls {
-                path: other,
-                file: second,
-            };
-            Ok(Named { name, path, file }.reply(heap, &calls)?)
-        }
+        Ok(Command::Trial(name)) => Ok(Named { name, file }.reply(heap, &Calls(other))?),
         Ok(Command::Check(name)) => {
-            let limits = Limits {
-                path: other,
-                file: second,
-            };
-            limits.check(heap, &Named { name, path, file }, out, progress)
+            Limits(other).check(heap, &Named { name, file }, Writers { out, progress })
         }
         Err(mistake) => Ok(Reply::Wrong(mistake_text(heap, mistake, args)?)),
     }

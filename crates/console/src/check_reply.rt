@@ -5,7 +5,7 @@ ghost use Rattle.limits_text.specs.Summaries.{summary_of};
 ghost use Rattle.console.specs.Replies.{answer_of, summary_answer, LimitsAnswer, CheckAnswer};
 
 use crate::found::Found;
-use crate::help::no_file_text;
+use crate::given::GivenFile;
 use crate::named::Named;
 use crate::reply::Reply;
 use limits_text::list::report_list;
@@ -16,12 +16,16 @@ use std::alloc::{AllocError, Global};
 use std::io;
 use std::io::Write;
 
-// A list of limits that is named, by its path, and its bytes, if it could be read. A text of calls is another type with these
-// fields, since each answers in its own way: one struct would want a kind beside them.
+// The file of a list of limits. A text of calls is a file of another type: it is a `Report`, and this, which writes, is none.
 #[derive(Clone, Copy)]
-pub(crate) struct Limits<'a> {
-    pub path: &'a str,
-    pub file: Option<&'a [u8]>,
+pub(crate) struct Limits<'a>(pub GivenFile<'a>);
+
+// Where a list of limits writes its reports, and where it tells its progress. `report_list` takes the two one by one, since it
+// lends each anew for a line.
+#[derive(Drop)]
+pub(crate) struct Writers<'a, W, P> {
+    pub out: &'a mut W,
+    pub progress: &'a mut P,
 }
 
 // The reply after a list of limits, with these outcomes.
@@ -38,19 +42,22 @@ fn summary_reply(heap: Global, outcomes: &[Outcome]) -> Result<Reply, AllocError
 }
 
 impl Limits<'_> {
-    // Judges the list over a source and writes its reports; replies the summary.
+    // Judges the list over a source and writes its reports; replies the summary. The writers are taken by value: a clause sees by
+    // `exit` what is left behind each of them.
     fn on<S: Source, W: Write, P: Write>(
         &self,
         heap: Global,
         source: &S,
-        out: &mut W,
-        progress: &mut P,
+        writers: Writers<'_, W, P>,
     ) -> io::Result<Reply>
-        ensures { IfOk result (λ a. Writes (λ w. LimitsAnswer self.now.path.now (option_map (λ x. x.now) self.now.file) (Ok (S.Source.model source.now)) w (answer_of a)) (W.Write.contents out.old) (W.Write.contents out.new) (P.Write.contents progress.old) (P.Write.contents progress.new)) }
+        ensures { IfOk result (λ a. Writes (λ w. LimitsAnswer self.now.0.path.now (option_map (λ x. x.now) self.now.0.bytes) (Ok (S.Source.model source.now)) w (answer_of a)) (W.Write.contents writers.entry.out.now) (W.Write.contents writers.exit.0.now) (P.Write.contents writers.entry.progress.now) (P.Write.contents writers.exit.1.0.now)) }
     {
-        let Some(list) = self.file else {
-            return Ok(Reply::Wrong(no_file_text(heap, self.path)?));
+        let Limits(file) = self;
+        let list = match file.read(heap)? {
+            Ok(list) => list,
+            Err(reply) => return Ok(reply),
         };
+        let Writers { out, progress } = writers;
         let outcomes = report_list(heap, source, list, out, progress)?;
         Ok(summary_reply(heap, outcomes.as_slice())?)
     }
@@ -60,14 +67,13 @@ impl Limits<'_> {
         &self,
         heap: Global,
         model: &Named<'_>,
-        out: &mut W,
-        progress: &mut P,
+        writers: Writers<'_, W, P>,
     ) -> io::Result<Reply>
-        ensures { IfOk result (λ a. Writes (λ w. CheckAnswer model.now.name model.now.path.now (option_map (λ x. x.now) model.now.file) self.now.path.now (option_map (λ x. x.now) self.now.file) w (answer_of a)) (W.Write.contents out.old) (W.Write.contents out.new) (P.Write.contents progress.old) (P.Write.contents progress.new)) }
+        ensures { IfOk result (λ a. Writes (λ w. CheckAnswer model.now.name model.now.file.path.now (option_map (λ x. x.now) model.now.file.bytes) self.now.0.path.now (option_map (λ x. x.now) self.now.0.bytes) w (answer_of a)) (W.Write.contents writers.entry.out.now) (W.Write.contents writers.exit.0.now) (P.Write.contents writers.entry.progress.now) (P.Write.contents writers.exit.1.0.now)) }
     {
         match model.find(heap)? {
-            Ok(Found::Tables(tables)) => self.on(heap, &tables, out, progress),
-            Ok(Found::Ladder(ladder)) => self.on(heap, &ladder, out, progress),
+            Ok(Found::Tables(tables)) => self.on(heap, &tables, writers),
+            Ok(Found::Ladder(ladder)) => self.on(heap, &ladder, writers),
             Err(reply) => Ok(reply),
         }
     }

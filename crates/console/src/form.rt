@@ -47,9 +47,9 @@ impl Report for Form {
 // The reply that prints a model that is named. A file as model text is left to the call of the tables that loads and writes,
 // which promises that the bytes that were read come out.
 pub(crate) fn print_reply(heap: Global, form: Form, model: &Named<'_>) -> Result<Reply, AllocError>
-    ensures { IfOk result (λ a. ModelAnswer (Gives (form_answer form)) model.now.name model.now.path.now (option_map (λ x. x.now) model.now.file) (answer_of a)) }
+    ensures { IfOk result (λ a. ModelAnswer (Gives (form_answer form)) model.now.name model.now.file.path.now (option_map (λ x. x.now) model.now.file.bytes) (answer_of a)) }
 {
-    match (form, model.name, model.file) {
+    match (form, model.name, model.file.bytes) {
         (Form::Text, ModelName::File, Some(text)) => written(heap, text),
         _ => model.reply(heap, &form),
     }

@@ -8,6 +8,7 @@ mod check_reply;
 pub mod command;
 mod form;
 mod found;
+mod given;
 pub mod help;
 mod named;
 mod names;

@@ -1,63 +1,67 @@
 ghost use Rattle.std.specs.Prelude.{◌≡◌, ◌++◌, codes};
-ghost use Rattle.console.specs.Commands.{verb_of, part, ladder_named, model_named, kind_of, preference_of};
+ghost use Rattle.console.specs.Commands.{verb_of, number_of, ladder_named, model_named, kind_of, preference_of};
 
-use crate::command::{Form, LadderNumbers, ModelName, Verb};
+use crate::command::{Form, LadderNumbers, Mistake, ModelName, Verb};
 use rounds_text::kind::Kind;
 use rules::preference::Preference;
 use rules::rounding::Rounding;
-use text::cut::{piece, piece_count};
 use text::number::number;
 
-// The command that a word spells. Words are read by functions here and below: no impl for a rule or a preference, which are of
-// other crates, can stand here, and for all four words alike it is the parser that tells which mistake it is where one says nothing.
-pub(crate) fn verb(word: &str) -> Option<Verb>
-    ensures { result ≡ verb_of word.now }
-{
-    match word {
-        "show" => Some(Verb::Print(Form::Listing)),
-        "write" => Some(Verb::Print(Form::Text)),
-        "rounds" => Some(Verb::Rounds),
-        "formula" => Some(Verb::Formula),
-        "trial" => Some(Verb::Trial),
-        "check" => Some(Verb::Check),
-        "help" => Some(Verb::Help),
-        _ => None,
+// The command that a word spells.
+impl<'a> TryFrom<&'a str> for Verb {
+    type Error = Mistake;
+
+    ghost try_from_gives = { λ word r. r ≡ verb_of word.now };
+
+    fn try_from(word: &'a str) -> Result<Verb, Mistake> {
+        match word {
+            "show" => Ok(Verb::Print(Form::Listing)),
+            "write" => Ok(Verb::Print(Form::Text)),
+            "rounds" => Ok(Verb::Rounds),
+            "formula" => Ok(Verb::Formula),
+            "trial" => Ok(Verb::Trial),
+            "check" => Ok(Verb::Check),
+            "help" => Ok(Verb::Help),
+            _ => Err(Mistake::NoSuchCommand),
+        }
     }
 }
 
-// The number that a part of a name writes, if it is one.
-fn part(name: &[u8], index: usize) -> Option<u32>
-    ensures { result ≡ part index name.now }
+// The number that a part of a name writes, if it is one. Where it is none, no place is told, so each part is asked as field 0.
+fn number_of(text: &str) -> Option<u32>
+    ensures { result ≡ number_of text.now }
 {
-    number(piece(name, b':', index), index).ok()
+    number(text.as_bytes(), 0).ok()
 }
 
-// The ladder that `ladder:` and these numbers name, if they are three. The parts are counted and each is cut for itself: `next`
-// after `next` on one `split` was tried, and of its seven ways out it stayed open which parts are left.
-fn ladder_named(numbers: &[u8]) -> Option<ModelName>
+// The ladder that `ladder:` and these numbers name, if they are three.
+fn ladder_named(numbers: &str) -> Option<ModelName>
     ensures { result ≡ ladder_named (codes "ladder:" ++ numbers.now) }
 {
-    if piece_count(numbers, b':') != 3 {
-        return None;
-    }
+    let (rungs, rest) = numbers.split_once(':')?;
+    let (denominator, weight) = rest.split_once(':')?;
     Some(ModelName::Ladder(LadderNumbers {
-        rungs: part(numbers, 0)? as usize,
-        denominator: part(numbers, 1)?,
-        weight: part(numbers, 2)?,
+        rungs: number_of(rungs)? as usize,
+        denominator: number_of(denominator)?,
+        weight: number_of(weight)?,
     }))
 }
 
 // The model that a name gives: a ladder, or the file at this path.
-pub(crate) fn model_named(name: &[u8]) -> Option<ModelName>
-    ensures { result ≡ model_named name.now }
-{
-    match name.strip_prefix(b"ladder:") {
-        Some(numbers) => ladder_named(numbers),
-        None => Some(ModelName::File),
+impl<'a> TryFrom<&'a str> for ModelName {
+    type Error = Mistake;
+
+    ghost try_from_gives = { λ name r. r ≡ model_named name.now };
+
+    fn try_from(name: &'a str) -> Result<ModelName, Mistake> {
+        match name.strip_prefix("ladder:") {
+            Some(numbers) => ladder_named(numbers).ok_or(Mistake::NoLadder),
+            None => Ok(ModelName::File),
+        }
     }
 }
 
-// The rule that a word names.
+// The rule that a word names. By a function, as the preference: both are types of other crates, for which no impl can stand here.
 pub(crate) fn kind(word: &str) -> Option<Kind>
     ensures { result ≡ kind_of word.now }
 {

@@ -2,7 +2,7 @@ ghost use Rattle.std.specs.Prelude.{◌≡◌, map, string_bytes};
 ghost use Rattle.console.specs.Commands.{help_asked, print_asked, rounds_asked, formula_asked, model_and_file, word_at, command_of};
 
 use crate::command::{Command, Form, Mistake, ModelName, RoundsMistake, Verb};
-use crate::names::{kind, model_named, preference, verb};
+use crate::names::{kind, preference};
 use rounds_text::request::Request;
 use text::number::long_number;
 
@@ -29,10 +29,7 @@ fn print_asked(form: Form, words: &[String]) -> Result<Command, Mistake>
 {
     match words {
         [] => Err(Mistake::NoModel),
-        [name] => {
-            let model = model_named(name.as_bytes()).ok_or(Mistake::NoLadder)?;
-            Ok(Command::Print(form, model))
-        }
+        [name] => Ok(Command::Print(form, ModelName::try_from(name.as_str())?)),
         _ => Err(Mistake::TooMany),
     }
 }
@@ -43,7 +40,7 @@ fn rounds_asked(words: &[String]) -> Result<Command, Mistake>
 {
     match words {
         [name, rule, wanted, number, _] => {
-            let model = model_named(name.as_bytes()).ok_or(Mistake::NoLadder)?;
+            let model = ModelName::try_from(name.as_str())?;
             let kind = kind(rule.as_str()).ok_or(RoundsMistake::NoRule)?;
             let preference = preference(wanted.as_str()).ok_or(RoundsMistake::NoPreference)?;
             let count = long_number(number.as_bytes()).ok_or(RoundsMistake::NoCount)?;
@@ -77,7 +74,7 @@ fn model_and_file(words: &[String], missing: Mistake) -> Result<ModelName, Mista
     match words {
         [] => Err(Mistake::NoModel),
         [_] => Err(missing),
-        [name, _] => model_named(name.as_bytes()).ok_or(Mistake::NoLadder),
+        [name, _] => ModelName::try_from(name.as_str()),
         _ => Err(Mistake::TooMany),
     }
 }
@@ -87,8 +84,7 @@ pub fn command(args: &[String]) -> Result<Command, Mistake>
     ensures { result ≡ command_of (map string_bytes args.now) }
 {
     let (word, words) = args.split_first().ok_or(Mistake::NoCommand)?;
-    let verb = verb(word.as_str()).ok_or(Mistake::NoSuchCommand)?;
-    match verb {
+    match Verb::try_from(word.as_str())? {
         Verb::Help => help_asked(words),
         Verb::Print(form) => print_asked(form, words),
         Verb::Rounds => rounds_asked(words),

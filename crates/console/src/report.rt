@@ -11,7 +11,8 @@ pub(crate) trait Report {
     // what it is to answer on a model
     ghost answers: { Self → Mdp → Answer → Type 0 };
 
-    // The reply on a source.
+    // The reply on a source. `heap` and `source` are two arguments here and in what is called with them: the heap goes to
+    // whatever wants memory and tells nothing of a model, and a struct of the two would be made for this call alone.
     fn on<S: Source>(&self, heap: Global, source: &S) -> Result<Reply, AllocError>
         ensures { IfOk result (λ a. answers self.now (S.Source.model source.now) (answer_of a)) };
 }

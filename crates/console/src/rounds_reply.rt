@@ -58,7 +58,7 @@ pub(crate) fn rounds_reply(
     model: &Named<'_>,
     args: &[String],
 ) -> Result<Reply, AllocError>
-    ensures { IfOk result (λ a. RoundsAnswer request model.now.name model.now.path.now (option_map (λ x. x.now) model.now.file) (map string_bytes args.now) (answer_of a)) }
+    ensures { IfOk result (λ a. RoundsAnswer request model.now.name model.now.file.path.now (option_map (λ x. x.now) model.now.file.bytes) (map string_bytes args.now) (answer_of a)) }
 {
     match values(heap, request.kind, word_at(args, 5).as_bytes())? {
         Ok(values) => {

@@ -4,7 +4,8 @@ ghost use Rattle.calls_text.specs.Texts.{contents};
 ghost use Rattle.calls_text.specs.VerdictEnds.{ReplaysReadOff};
 ghost use Rattle.console.specs.Replies.{answer_of, CallsReplayed, CallsAnswer};
 
-use crate::help::{no_file_text, wrong_line_text};
+use crate::given::GivenFile;
+use crate::help::wrong_line_text;
 use crate::reply::Reply;
 use crate::report::Report;
 use calls_text::hold::hold_states;
@@ -16,14 +17,12 @@ use model::source::Source;
 use replay::replay::replay;
 use std::alloc::{AllocError, Global};
 
-// A text of calls that is named, by its path, and its bytes, if it could be read.
+// The file of a text of calls.
 #[derive(Clone, Copy)]
-pub(crate) struct Calls<'a> {
-    pub path: &'a str,
-    pub file: Option<&'a [u8]>,
-}
+pub(crate) struct Calls<'a>(pub GivenFile<'a>);
 
-// Holds the states of a script in a layer over the source, and makes its calls on a trial of that.
+// Holds the states of a script in a layer over the source, and makes its calls on a trial of that. `heap` and `source` stay two
+// arguments: only the source goes under the layer, and from there on the heap goes beside the layer.
 fn trialed<S: Source>(heap: Global, source: &S, script: Script) -> Result<Reply, AllocError>
     requires { ReplaysReadOff script }
     ensures { IfOk result (λ a. CallsReplayed (S.Source.model source.now) (contents script) (answer_of a)) }
@@ -39,15 +38,17 @@ fn trialed<S: Source>(heap: Global, source: &S, script: Script) -> Result<Reply,
 
 // Calls are made on a trial of the model, and their answers printed.
 impl Report for Calls<'_> {
-    ghost answers = { λ c. CallsAnswer c.path.now (option_map (λ x. x.now) c.file) };
+    ghost answers = { λ c. CallsAnswer c.0.path.now (option_map (λ x. x.now) c.0.bytes) };
 
     fn on<S: Source>(&self, heap: Global, source: &S) -> Result<Reply, AllocError> {
-        let Some(text) = self.file else {
-            return Ok(Reply::Wrong(no_file_text(heap, self.path)?));
+        let Calls(file) = self;
+        let text = match file.read(heap)? {
+            Ok(text) => text,
+            Err(reply) => return Ok(reply),
         };
         match read_calls(heap, source, text)? {
             Ok(script) => trialed(heap, source, script),
-            Err(mistake) => Ok(Reply::Wrong(wrong_line_text(heap, self.path, mistake)?)),
+            Err(mistake) => Ok(Reply::Wrong(wrong_line_text(heap, file.path, mistake)?)),
         }
     }
 }

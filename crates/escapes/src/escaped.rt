@@ -15,7 +15,8 @@ fn hex_digit(byte: u8) -> u8
     }
 }
 
-// Puts what stands behind a backslash at the end of `out`: n, t and r stand for LF, tab and CR, x for two digits.
+// Puts what stands behind a backslash at the end of `out`: n, t and r stand for LF, tab and CR, x for two digits. Here
+// and where a piece, a repetition or a part is put, the text and `out` are two arguments: one `out` is lent on for many texts.
 fn push_escape(part: &[u8], out: &mut Vec<u8>) -> Result<(), AllocError>
     ensures { IfOk result (λ _. out.new.items ≡ out.old.items ++ escape part.now) }
 {

@@ -2,17 +2,15 @@
 use Rattle.std.proofs.Common.{◌≡◌, ℕ, ◌+◌, true, false, cond, eqb, ltb, List, [], ◌∷◌, ◌++◌, length, drop, Some, None, vec_items, Option, sym, refl, ap, ◌∙◌, ap₂, arith, length-append, append-nil, add-zero, Bool}
 use Rattle.std.proofs.lemmas.List.{drop_all, drop-append-le}
 use Rattle.std.proofs.lemmas.Bool.{both_ways}
+use Rattle.std.proofs.lemmas.Option.{none-some}
 use Rattle.model.specs.declared.branch.Branch.{Branch}
 use Rattle.model.specs.declared.labels.Labels.{Labels}
 use Rattle.model.specs.Mdp.{total}
 use Rattle.text.specs.declared.word.Word.{Word}
 use Rattle.text.specs.declared.word.Word.TheVariants as word
-use Rattle.text.specs.declared.fault.FileFault.TheVariants.{Missing}
 use Rattle.text.specs.Cuts.{Line}
 use Rattle.text.specs.Words.{listed, one_of, followers}
 use Rattle.text.specs.Questions.{word, number, last_word, header, states_given, denominator_given, above_last, count, word_fits, states_there}
-use Rattle.text.specs.Refusals.{ask, or_next, numbered, line_fault, line_refusal}
-use Rattle.text_laws.proofs.SoundAsks.{some_none}
 use Rattle.text_laws.proofs.SoundRest.{count_more, row_sum_more}
 use Rattle.flat.specs.declared.loader.Loader.{Loader}
 use Rattle.flat.specs.declared.loader.Record.{Record}
@@ -146,7 +144,7 @@ module _ (line : Line) (before : List Line) (r q : Loader) (k : Follows r before
       let given = headers said s in
       record {
         last = put.last ∙ sym e;
-        begun = λ z. absurd (some_none v (sym put.last ∙ z));
+        begun = λ z. absurd (none-some v (sym z ∙ put.last));
         states = ap (λ h. h.states) put.header ∙ given.0;
         denominator = ap (λ h. h.denominator) put.header ∙ given.1;
         row = row.0 ∙ ap (λ n. cond (listed v (word.Branch ∷ [])) (number 2 line + n) 0) k.row ∙ sym (row_sum_more v line before e);
@@ -166,7 +164,3 @@ there line before r said k s = ap (λ o. cond (one_of (word.End ∷ []) o) (eqb 
     by_kind record_of.Choice = refl
     by_kind (record_of.Branch branch) = refl
     by_kind record_of.End = sym (ap₂ eqb k.state_count k.states)
-
--- a line with no fault is not refused, where all states are there or it is no end
-pub not_refused : (before : List Line) (n : ℕ) (line : Line) → line_fault before line ≡ None → states_there before line ≡ true → line_refusal before n line ≡ None
-not_refused before n line e h = ap (λ o. or_next (numbered n o) (or_next (ask (states_there before line) Missing) None)) e ∙ ap (λ b. or_next (ask b Missing) None) h

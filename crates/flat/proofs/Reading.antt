@@ -1,10 +1,9 @@
 -- The lines of a text are read one after the other.
-use Rattle.std.proofs.Common.{◌≡◌, ℕ, ◌+◌, ◌-◌, ◌<◌, ◌≤◌, Bool, true, false, cond, eqb, List, [], ◌∷◌, ◌++◌, map, length, get_or, drop, Some, None, vec_items, Option, sym, refl, ap, ◌∙◌, subst, ap₂, zero-add, Bor, arith}
+use Rattle.std.proofs.Common.{◌≡◌, ℕ, ◌+◌, ◌-◌, ◌<◌, ◌≤◌, Bool, true, false, cond, eqb, List, [], ◌∷◌, ◌++◌, map, length, get_or, drop, Some, None, vec_items, Option, sym, refl, ap, ◌∙◌, subst, ap₂, Bor, arith}
 use Rattle.std.proofs.lemmas.List.{map-append, at_drop_more, drop_all, get_or-map, length-map}
-use Rattle.std.proofs.lemmas.List.FromFn.{get_or-enumerate_from, length-enumerate_from}
 use Rattle.std.proofs.lemmas.Iterator.{YieldsList}
-use Rattle.std.proofs.lemmas.Iterator.Consumers.{YieldsList-turn, YieldsList-end}
 use Rattle.std.proofs.lemmas.Bool.{le-leb, eq-eqb}
+use Rattle.std.proofs.lemmas.Option.{none-some}
 use Rattle.std.specs.Iterator.{Yields}
 use Rattle.std.specs.List.{slice_split, onto_first, enumerate_from}
 use Rattle.model.specs.Mdp.{total}
@@ -17,10 +16,11 @@ use Rattle.text.specs.Texts.{Describes, content_lines}
 use Rattle.text.specs.Words.{one_of}
 use Rattle.text.specs.Questions.{number, header, last_word, word_fits}
 use Rattle.text.specs.Refusals.{ask, or_next, numbered, line_fault, line_refusal, lines_refusal, refusal}
+use Rattle.text.proofs.Parts.{next_part, no_part}
 use Rattle.text_laws.proofs.Nest.{first_line, content_of}
 use Rattle.text_laws.proofs.Sound.{sound, describes}
 use Rattle.text_laws.proofs.Complete.{accepted}
-use Rattle.text_laws.proofs.SoundAsks.{some_none, or_next_none, ask_next_none, numbered_none}
+use Rattle.text_laws.proofs.SoundAsks.{or_next_none, ask_next_none, numbered_none}
 use Rattle.flat.specs.declared.flat.Flat.{Flat}
 use Rattle.flat.specs.declared.loader.Loader.{Loader}
 use Rattle.flat.specs.Drafts.{Added, Closed}
@@ -45,7 +45,7 @@ refusal_lines text short ended =
 
 -- a text that is refused describes nothing
 pub refused_none : (text : List ℕ) (fault : FileFault) → refusal text ≡ Some fault → (c : Content) → Describes text c → ⊥
-refused_none text fault e c d = some_none fault (sym e ∙ accepted text c d)
+refused_none text fault e c d = none-some fault (sym (accepted text c d) ∙ e)
 
 -- the pieces of a text that an LF ends are the parts of what stands before that LF
 cut_parts : (body : List ℕ) → cut 10 [] (body ++ (10 ∷ [])) ≡ slice_split (λ b. eqb b 10) body
@@ -73,20 +73,18 @@ module _ {S : Type 0} {steps : S → Option (ℕ × Bor (List ℕ)) → S → Ty
   pub next_line : (i : ℕ) (part : Bor (List ℕ)) → got ≡ Some (i, part) → Next (lines (body ++ (10 ∷ []))) (length xs) i (fields part.now)
   next_line i part e =
       let parts = slice_split (λ b. eqb b 10) body in
-      let turn = YieldsList-turn each xs t had got u (i, part) e step in
-      let few : length xs < length parts = omega (arith, turn.0, length-enumerate_from 0 parts) in
-      let same = turn.1 ∙ get_or-enumerate_from 0 parts (length xs) (i, part.now) few in
+      let next = next_part parts each xs t had u got step i part e in
       record {
-        number = ap (λ p. p.0) same ∙ zero-add (length xs);
-        within = rw (lines_parts body, length-map parts fields) few;
-        here = ap (λ p. fields p.1) same ∙ sym (get_or-map fields parts (length xs) part.now (fields part.now) few) ∙ ap (λ ls. get_or ls (length xs) (fields part.now)) (sym (lines_parts body));
+        number = next.0;
+        within = rw (lines_parts body, length-map parts fields) next.1;
+        here = ap fields next.2 ∙ sym (get_or-map fields parts (length xs) part.now (fields part.now) next.1) ∙ ap (λ ls. get_or ls (length xs) (fields part.now)) (sym (lines_parts body));
       }
 
   -- where it gets none, it has had all lines
   pub no_line : got ≡ None → length xs ≡ length (lines (body ++ (10 ∷ [])))
   no_line e =
       let parts = slice_split (λ b. eqb b 10) body in
-      (YieldsList-end each xs t had got u e step).1 ∙ length-enumerate_from 0 parts ∙ sym (length-map parts fields) ∙ ap length (sym (lines_parts body))
+      no_part parts each xs t had u got step e ∙ sym (length-map parts fields) ∙ ap length (sym (lines_parts body))
 
 -- the header, if it is read, and else the first line that is left
 abbrev first_of : List Line → List Line → Line

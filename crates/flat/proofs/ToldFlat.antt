@@ -2,12 +2,13 @@
 use Rattle.std.proofs.Common.{◌≡◌, ℕ, ◌+◌, ◌^◌, ◌<◌, List, [], ◌∷◌, ◌++◌, map, length, vec_items, sym, refl, ap, ◌∙◌, ap₂, arith}
 use Rattle.std.proofs.lemmas.List.{append_assoc, length-map}
 use Rattle.model.specs.Mdp.{Row, Each}
+use Rattle.model.proofs.Lists.{each_map}
 use Rattle.text.specs.Cuts.{Line}
 use Rattle.text.specs.Contents.{State, Content, all_choices, all_branches}
 use Rattle.text.specs.Texts.{row_lines, choices_lines, states_lines, content_lines, end_line, Within}
 use Rattle.text_laws.proofs.CompleteFields.{labels_read}
 use Rattle.text_laws.proofs.CompleteTold.{branch_told}
-use Rattle.text_laws.proofs.States.{LawfulState, lawful_states, Small, small_rows, each_map}
+use Rattle.text_laws.proofs.States.{LawfulState, lawful_states, Small, small_rows}
 use Rattle.flat.specs.declared.flat.Flat.{Flat}
 use Rattle.flat.specs.Flats.{content, StartsOk, OffsetsOk, sums, labels_in, starts_of, offsets_of, branches_of, LaidOut}
 use Rattle.flat.proofs.Told.{told_labels, told_starts, told_offsets, told_branches, arrays, told}

@@ -1,8 +1,9 @@
-ghost use Rattle.std.specs.Prelude.{◌≡◌, ◌≤◌, ◌&&◌, List, length, IfOk, nat_lt};
+ghost use Rattle.std.specs.Prelude.{◌≡◌, ◌≤◌, ◌&&◌, true, false, List, length, IfOk, MatchResult, nat_lt};
 ghost use Rattle.model.specs.Mdp.{total};
 ghost use Rattle.text.specs.Cuts.{Line, fields};
 ghost use Rattle.text.specs.Fields.{between};
 ghost use Rattle.text.specs.Questions.{last_word, closed};
+ghost use Rattle.text.specs.declared.fault.LineFault.TheVariants.{Sum};
 ghost use Rattle.text.specs.declared.word.Word.TheVariants as kind;
 ghost use Rattle.flat.specs.declared.loader.Loader.{Loader};
 ghost use Rattle.flat.specs.Readings.{row_of, goes_above, Follows, Admits, WordRead, NumbersRead, LineRead, RestRead};
@@ -21,7 +22,7 @@ fn row_total(row: &[Branch]) -> u64
     requires { length row.now ≤ 4096 }
     ensures { result ≡ total row.now }
 {
-    row.iter().map(|branch| branch.weight as u64).sum()
+    row.iter().map(|branch| u64::from(branch.weight)).sum()
 }
 
 // Is the target above the last of a row?
@@ -95,7 +96,17 @@ impl Loader<'_> {
         ensures { (before : List Line) → Follows self.now before → result ≡ closed before }
     {
         self.last != Some(Word::Branch)
-            || row_total(self.open_row()) == self.header.denominator as u64
+            || row_total(self.open_row()) == u64::from(self.header.denominator)
+    }
+
+    // Refuses a line after a row that does not sum up (9).
+    fn check_row(&self) -> Result<(), LineFault>
+        ensures { (before : List Line) → Follows self.now before → MatchResult result (λ _. closed before ≡ true) (λ e. (closed before ≡ false) × (e ≡ Sum)) }
+    {
+        if !self.row_closes() {
+            return Err(LineFault::Sum);
+        }
+        Ok(())
     }
 
     // A state: its labels are lawful (7), the row before it sums up (9), and the header has states left (10).
@@ -104,9 +115,7 @@ impl Loader<'_> {
         ensures admitted { IfOk result (Admits self.now) }
     {
         let labels = labels(field(line, 1), 1)?;
-        if !self.row_closes() {
-            return Err(LineFault::Sum);
-        }
+        self.check_row()?;
         if self.flat.labels.len() >= self.header.states {
             return Err(LineFault::States);
         }
@@ -118,9 +127,7 @@ impl Loader<'_> {
         ensures read { (before : List Line) (line : Line) → Follows self.now before → RestRead kind.Choice before line result }
         ensures admitted { IfOk result (Admits self.now) }
     {
-        if !self.row_closes() {
-            return Err(LineFault::Sum);
-        }
+        self.check_row()?;
         if self.flat.offsets.len() >= CHOICES {
             return Err(LineFault::Choices);
         }
@@ -159,9 +166,7 @@ impl Loader<'_> {
         ensures read { (before : List Line) (line : Line) → Follows self.now before → RestRead kind.End before line result }
         ensures admitted { IfOk result (Admits self.now) }
     {
-        if !self.row_closes() {
-            return Err(LineFault::Sum);
-        }
+        self.check_row()?;
         Ok(Record::End)
     }
 

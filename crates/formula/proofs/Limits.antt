@@ -3,6 +3,7 @@ use Rattle.std.proofs.Common.{◌≡◌, ℕ, ◌+◌, Bool, true, false, ◌&&�
 use Rattle.std.proofs.lemmas.Bool.{and_parts, and_from, leb-true, le-leb}
 use Rattle.std.specs.Option.{option_or}
 use Rattle.text.specs.Refusals.{ask, first}
+use Rattle.text.proofs.Asking.{ask_none}
 use Rattle.theory.specs.Mixes.{whole}
 use Rattle.theory.specs.Formulas.{Comparison, at_most, Formula, PathFormula, truth, label, negation, conjunction, probability, next, until_within, until, extremal, most_steps, LawfulFormula, LawfulPath}
 use Rattle.grammar.specs.Spelling.{print_bound, print, Spelled, SpelledPath}
@@ -20,12 +21,7 @@ or_none (Some x) b e = absurd cc
 none_or : (a b : Option ℕ) → a ≡ None → b ≡ None → option_or a b ≡ None
 none_or a b p q = rw p q
 
--- a question leaves no fault just if its answer is yes
-ask_none : (b : Bool) (x : ℕ) → ask b x ≡ None → b ≡ true
-ask_none true x e = refl
-ask_none false x e = absurd cc
-
--- and a yes leaves none
+-- a yes leaves no fault
 none_ask : (b : Bool) (x : ℕ) → b ≡ true → ask b x ≡ None
 none_ask b x e = ap (λ z. ask z x) e
 

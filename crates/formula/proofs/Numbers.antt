@@ -1,5 +1,5 @@
 -- The number that a text begins with is the number that the grammar reads there.
-use Rattle.std.proofs.Common.{◌≡◌, ℕ, ◌+◌, ◌^◌, ◌<◌, ◌≤◌, Bool, true, false, cond, ◌⊎◌, List, [], ◌∷◌, ◌++◌, length, get_or, take, drop, Some, None, Ok, Option, decimal, sym, refl, ap, ◌∙◌, subst, ⊎_elim, arith, lit<, length-append, length-drop, drop-drop}
+use Rattle.std.proofs.Common.{◌≡◌, ℕ, ◌+◌, ◌^◌, ◌<◌, ◌≤◌, Bool, true, cond, List, [], ◌∷◌, ◌++◌, length, get_or, take, drop, Some, None, Ok, Option, decimal, sym, refl, ap, ◌∙◌, subst, ⊎_elim, arith, lit<, length-append, length-drop, drop-drop}
 use Rattle.std.specs.Option.{option_map}
 use Rattle.std.proofs.lemmas.List.{drop_more, take-append-drop, length-take-le}
 use Rattle.std.proofs.lemmas.Fmt.{decimal_digit}

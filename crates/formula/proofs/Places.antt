@@ -3,6 +3,7 @@ use Rattle.std.proofs.Common.{◌≡◌, ℕ, ◌+◌, ◌≤◌, Bool, true, fa
 use Rattle.std.specs.Option.{option_or}
 use Rattle.std.proofs.lemmas.List.{drop_at, drop-drop, drop_all}
 use Rattle.std.proofs.lemmas.Bool.{leb-false}
+use Rattle.std.proofs.lemmas.Option.{none-some}
 use Rattle.text.specs.Refusals.{ask}
 use Rattle.theory.specs.Mixes.{whole}
 use Rattle.theory.specs.Formulas.{Comparison, at_most, Formula, PathFormula, truth, label, negation, conjunction, probability, next, until_within, until, extremal, most_steps}
@@ -39,10 +40,6 @@ ask_some : (b : Bool) (x p : ℕ) → ask b x ≡ Some p → (b ≡ false) × (x
 ask_some true x p e = absurd cc
 ask_some false x p e = (refl, cc)
 
--- there is no place where there is none
-no_place : {X : Type 0} (p : ℕ) → ◌≡◌ {A = Option ℕ} None (Some p) → X
-no_place p e = absurd cc
-
 -- a number above its limit that stands at its place
 large_here : (t : List ℕ) (n limit at e p : ℕ) → most_steps ≤ limit → Stands (decimal n) t at e → ask (leb n limit) at ≡ Some p → LargeAt t p
 large_here t n limit at e p most s q =
@@ -54,8 +51,8 @@ module _ (t : List ℕ) where
   -- where a formula stands in a text, a large number stands at the place of its first
   mutual
     large_stands : (f : Formula) (at e p : ℕ) → Stands (print f) t at e → first_large at f ≡ Some p → LargeAt t p
-    large_stands truth at e p s q = no_place p q
-    large_stands (label i) at e p s q = no_place p q
+    large_stands truth at e p s q = absurd (none-some p q)
+    large_stands (label i) at e p s q = absurd (none-some p q)
     large_stands (negation f) at e p s q = large_stands f (at + 1) e p (back (33 ∷ []) _ s) q
     large_stands (conjunction f g) at e p s q =
         let rest = back (40 ∷ []) _ s in
@@ -94,15 +91,15 @@ module _ (t : List ℕ) where
 
   -- a `P` that stands at the place of an until that may not stand there
   p_here : (c : Comparison) (b : ℕ) (r : PathFormula) (at p : ℕ) → Stands (80 ∷ []) t at (at + 1) → unbounded c b r at ≡ Some p → Stands (80 ∷ []) t p (p + 1)
-  p_here c b (next f) at p s q = no_place p q
-  p_here c b (until_within k f g) at p s q = no_place p q
+  p_here c b (next f) at p s q = absurd (none-some p q)
+  p_here c b (until_within k f g) at p s q = absurd (none-some p q)
   p_here c b (until f g) at p s q = subst (λ (z : ℕ). Stands (80 ∷ []) t z (z + 1)) (ask_some (is_some (extremal c b)) at p q).1 s
 
   -- where a formula stands in a text, a `P` stands at the place of its first such until
   mutual
     p_stands : (f : Formula) (at e p : ℕ) → Stands (print f) t at e → first_unbounded at f ≡ Some p → Stands (80 ∷ []) t p (p + 1)
-    p_stands truth at e p s q = no_place p q
-    p_stands (label i) at e p s q = no_place p q
+    p_stands truth at e p s q = absurd (none-some p q)
+    p_stands (label i) at e p s q = absurd (none-some p q)
     p_stands (negation f) at e p s q = p_stands f (at + 1) e p (back (33 ∷ []) _ s) q
     p_stands (conjunction f g) at e p s q =
         let rest = back (40 ∷ []) _ s in

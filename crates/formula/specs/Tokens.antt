@@ -1,5 +1,5 @@
 -- What the readers find of the parts of a formula's text that are no formulas: bytes, comparisons, numbers, bounds and steps.
-use Rattle.std.specs.Prelude.{◌≡◌, ℕ, ◌+◌, ◌^◌, ◌<◌, ◌≤◌, Bool, false, ◌&&◌, ◌||◌, List, [], ◌∷◌, length, take, Some, None, Ok, Err, decimal, Option, Result, IfSome, ◌==◌, nat_le, nat_lt, slice_index}
+use Rattle.std.specs.Prelude.{◌≡◌, ℕ, ◌+◌, ◌<◌, ◌≤◌, Bool, ◌&&◌, List, [], ◌∷◌, length, Some, None, Ok, Err, decimal, Option, Result, IfSome, ◌==◌, nat_lt, slice_index}
 use Rattle.theory.specs.Formulas.{Comparison, below, at_most, above, at_least}
 use Rattle.records.specs.declared.comparison.Comparison.{Comparison as Code}
 use Rattle.records.specs.declared.comparison.Comparison.TheVariants.{Below, AtMost, Above, AtLeast}

@@ -5,7 +5,8 @@ ghost use Rattle.formula.specs.Extremals.{maybe_meant};
 
 use records::comparison::Comparison;
 
-// The largest bound: all units of the whole. The crate of value rules has it too, which a reader does not use.
+// The largest bound: all units of the whole. The crate of value rules has it too, which a reader does not use; it is no limit of
+// a model, and no record needs it.
 pub(crate) const WHOLE: u64 = 1_000_000_000;
 
 // The three bounds that an until without steps may have: more than 0, at most 0, and at least the whole.

@@ -9,8 +9,9 @@ use records::record::{Kind, Record};
 // Reads the state formula that begins there, and writes its records from number `count` on, as far as there is room:
 // what is known of it, or the place where every beginning of a formula breaks off. The count is no field of
 // the cursor: a place goes on over each byte, and the count only where a formula ends, whose reading tells it to the next
-// part. It is at most the place, since each record has a byte of its own. It and the reader of a path formula call each other,
-// as the rules of the grammar name each other.
+// part. It is at most the place, since each record has a byte of its own. The records and the count are no struct that
+// counts on: a reading tells its count as a part of its answer, and a struct would have each contract tell it a second time.
+// This reader and that of a path formula call each other, as the rules of the grammar name each other.
 #[cycle(path_formula_state_formula)]
 pub(crate) fn state_formula(
     from: Cursor<'_>,
@@ -87,7 +88,7 @@ fn atomic_formula(from: Cursor<'_>, records: &mut [Record], count: usize) -> Res
         }
         [letter @ b'a'..=b'p', ..] => {
             let number = *letter - b'a';
-            put(records, count, atomic(Kind::Label, number as u64));
+            put(records, count, atomic(Kind::Label, u64::from(number)));
             Ok(Reading::atom(at + 1, count))
         }
         _ => Err(at),

@@ -12,7 +12,8 @@ use std::fmt::Write;
 use std::io;
 use std::io::{BufRead, BufReader};
 
-// What the lent records are before a text is read.
+// What the lent records are before a text is read: like no record that is read, so a change is seen. The tests of replays have
+// the same: it is a value for tests, and there is no crate of tests that both use.
 const BEFORE: Record = Record {
     kind: Kind::Until,
     first: 77,
@@ -24,10 +25,10 @@ const BEFORE: Record = Record {
     undecided: 77,
 };
 
-// The fields of the first records by their numbers.
-fn listed(heap: Global, records: &[Record], count: usize) -> Result<String, AllocError> {
+// The fields of these records by their numbers.
+fn listed(heap: Global, records: &[Record]) -> Result<String, AllocError> {
     let mut out = String::new(heap);
-    for record in records.iter().take(count) {
+    for record in records {
         let kind = record.kind.number();
         let comparison = record.comparison_number();
         let Record {
@@ -47,9 +48,9 @@ fn listed(heap: Global, records: &[Record], count: usize) -> Result<String, Allo
     Ok(out)
 }
 
-// Whether all records from number `from` on are as they were.
-fn untouched(records: &[Record], from: usize) -> &'static str {
-    if records.iter().skip(from).all(|record| *record == BEFORE) {
+// Whether all of these records are as they were.
+fn untouched(records: &[Record]) -> &'static str {
+    if records.iter().all(|record| *record == BEFORE) {
         "untouched"
     } else {
         "changed"
@@ -62,15 +63,13 @@ fn tried(rt: &HostRuntime, name: &str, lent: usize, text: &[u8]) -> io::Result<(
     let mut records = vec![in heap; BEFORE; lent]?;
     match read_formula(text, records.as_mut_slice()) {
         Ok(count) => {
-            let lines = listed(heap, records.as_slice(), count)?;
-            let rest = untouched(records.as_slice(), count);
+            let lines = listed(heap, &records[..count])?;
+            let rest = untouched(&records[count..]);
             println!(rt; "formula {name}: ok {count}{lines}; rest {rest}")
         }
         Err(fault) => {
-            let number = fault.number();
-            let place = fault.place();
-            let rest = untouched(records.as_slice(), 0);
-            println!(rt; "formula {name}: refused {number} place {place}; records {rest}")
+            let rest = untouched(records.as_slice());
+            println!(rt; "formula {name}: {fault}; records {rest}")
         }
     }
 }

@@ -1,8 +1,6 @@
 -- From what reading a text answers to what is answered of its table.
-use Rattle.std.proofs.Common.{◌≡◌, ℕ, min, List, length, take, drop, Err, refl, ap, ◌∙◌, subst, arith, length-take}
-use Rattle.std.proofs.lemmas.List.{take_all}
-use Rattle.std.proofs.Math.Seq.{take-append_seam}
-use Rattle.model.specs.Mdp.{over}
+use Rattle.std.proofs.Common.{◌≡◌, ℕ, List, length, take, Err, refl, ap, ◌∙◌, subst, arith}
+use Rattle.model.proofs.Copies.{take_over}
 use Rattle.records.specs.declared.record.Record.{Record}
 use Rattle.records.specs.declared.fault.FormulaFault.{FormulaFault}
 use Rattle.records.specs.declared.fault.FormulaFault.TheVariants.{NoFormula, Number, Depth, Records, Until}
@@ -15,12 +13,6 @@ use Rattle.formula.proofs.Forms.{length_records}
 use Rattle.formula_text.specs.Tables.{records_table}
 use Rattle.formula_text.specs.Answers.{Tabled, lent_records}
 
--- what is written over the front of a list, as much of it as fits, stands there
-front_over : {X : Type 0} (new xs ys : List X) (n : ℕ) → n ≡ min (length new) (length xs) → ys ≡ over new xs → take n ys ≡ take (length xs) new
-front_over new xs ys n e f =
-    let all : n ≡ length (take (length xs) new) = simp length-take (omega arith) in
-    rw (f, all) (take-append_seam (take (length xs) new) (drop (length new) xs))
-
 -- the records that an accepted text leaves at the front of those lent are those of its formula
 pub tabled : (text bytes : List ℕ) (blank left : List Record) (n : ℕ) → length blank ≡ lent_records → Limits → Accepted text blank left n → bytes ≡ records_table (take n left) → Tabled text bytes
 tabled text bytes blank left n long limits a e =
@@ -29,8 +21,7 @@ tabled text bytes blank left n long limits a e =
     let room = within.room in
     let all = length_records f 0 in
     let few = a.number in
-    let front : take n left ≡ records 0 f =
-    front_over (records 0 f) blank left n (omega arith) a.written ∙ take_all (length blank) (records 0 f) (omega arith) in
+    let front : take n left ≡ records 0 f = ap (take n) a.written ∙ take_over (records 0 f) blank (omega arith) n (omega arith) in
     record {
       formula = f;
       spelled = a.spelled;

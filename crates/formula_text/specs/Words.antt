@@ -1,10 +1,10 @@
 -- What is printed of the refusal of a formula's text, or of its judge.
-use Rattle.std.specs.Prelude.{ℕ, List, [], ◌++◌, codes, decimal}
+use Rattle.std.specs.Prelude.{ℕ, List, [], ◌++◌, codes}
 use Rattle.records.specs.declared.fault.FormulaFault.{FormulaFault}
 use Rattle.records.specs.declared.fault.FormulaFault.TheVariants.{NoFormula, Number, Depth, Records, Until}
 use Rattle.records.specs.declared.fault.JudgeFault.{JudgeFault}
 use Rattle.records.specs.declared.fault.JudgeFault.TheVariants.{Length, Formula, Scratch, Out}
-use Rattle.records.specs.Faults.{judge_fault_number, judge_fault_place, formula_fault_place}
+use Rattle.records.specs.Faults.{formula_fault_place, judge_refused_at}
 use Rattle.printing.specs.Carets.{marked}
 
 -- the words on a formula's fault
@@ -24,7 +24,7 @@ judge_words Out = codes "the output has not a byte for each state; lend it just 
 
 -- the line of a refusal: its number, its place and its words
 abbrev pub judge_line : JudgeFault → List ℕ
-judge_line f = codes "refused " ++ (decimal (judge_fault_number f) ++ (codes " place " ++ (decimal (judge_fault_place f) ++ (codes ": " ++ judge_words f))))
+judge_line f = judge_refused_at f ++ (codes ": " ++ judge_words f)
 
 -- the text with a caret under the place of a formula's fault; nothing for a fault that the text does not have as a formula
 abbrev pub judge_mark : JudgeFault → List ℕ → List ℕ

@@ -4,22 +4,11 @@ ghost use Rattle.formula_text.specs.Answers.{TableAnswer};
 use crate::table::records_table;
 use formula::reader::read_formula;
 use records::fault::JudgeFault;
-use records::record::{Kind, Record};
+use records::record::BLANK;
 use std::alloc::{AllocError, Global};
 
-// A record that nothing is read into yet. `Record` has no `Default`: none of them stands for no formula.
-pub const BLANK: Record = Record {
-    kind: Kind::Truth,
-    first: 0,
-    second: 0,
-    comparison: None,
-    number: 0,
-    steps: 0,
-    yes: 0,
-    undecided: 0,
-};
-
-// What is printed of a formula's text: the table of its records, or the fault that is to be told.
+// What is printed of a formula's text: the table of its records, or the fault that is to be told. Here and where the text is
+// marked `heap` and `text` are two arguments: the heap goes to whatever wants memory and is no part of a text.
 pub fn formula_table(heap: Global, text: &[u8]) -> Result<Result<String, JudgeFault>, AllocError>
     ensures { IfOk result (λ a. TableAnswer text.now a) }
 {

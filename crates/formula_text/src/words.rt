@@ -47,10 +47,8 @@ pub fn judge_words(fault: &JudgeFault) -> &'static str
 pub fn judge_line(heap: Global, fault: &JudgeFault) -> Result<String, AllocError>
     ensures { IfOk result (λ s. string_bytes s ≡ judge_line fault.now) }
 {
-    let number = fault.number();
-    let place = fault.place();
     let words = judge_words(fault);
-    format!(in heap; "refused {number} place {place}: {words}")
+    format!(in heap; "{fault}: {words}")
 }
 
 // The text with a caret under the place of a formula's fault; nothing for a fault that the text does not have as a formula.

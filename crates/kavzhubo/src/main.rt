@@ -7,7 +7,8 @@ use std::io::Write;
 use std::process::ExitCode;
 use std::{env, fs, io};
 
-// The bytes of the file with this number that the command line names, if it names one and that can be read.
+// The bytes of the file with this number that the command line names, if it names one and that can be read. The tour has this and
+// the lines that call it word for word: both stand above the console, which does no input, with no library between.
 fn file(rt: &HostRuntime, args: &[String], number: usize) -> Option<Vec<u8>> {
     path(args, number).and_then(|path| fs::read(rt, path).ok())
 }

@@ -125,6 +125,7 @@ impl<S: Source> Source for Hold<S> {
         if self.back(state).is_none() {
             return self.below.lend_row(state, choice, buffer);
         }
+        // What `lend_row` does where a source has none of its own, which one that has cannot call.
         let count = self.read_row(state, choice, buffer);
         &buffer[..count.min(buffer.len())]
     }

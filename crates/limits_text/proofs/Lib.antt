@@ -1,4 +1,5 @@
 pub mod Cells
+pub mod Counting
 pub mod Units
 pub mod Printable
 pub mod Outcomes

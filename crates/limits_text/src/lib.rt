@@ -2,6 +2,7 @@
 // It may use the crates model, theory, rules, text, grammar, records, formula, trial, printing and formula_text.
 #![tactic(auto)]
 
+mod count;
 pub mod item;
 pub mod list;
 pub mod outcome;

@@ -1,4 +1,4 @@
-ghost use Rattle.std.specs.Prelude.{◌≡◌, ◌++◌, map, count_by, IfOk, OnOk, option_to_list};
+ghost use Rattle.std.specs.Prelude.{◌≡◌, map, count_by, IfOk, OnOk};
 ghost use Rattle.std.specs.Io.KnownBytes.{Appends};
 ghost use Rattle.limits_text.specs.Lists.{list_lines, is_formula, progress_line, progress_before, LineReported, ListReported, Writes};
 
@@ -68,16 +68,6 @@ fn report_line<S: Source, W: Write>(
     Ok(outcome)
 }
 
-// Keeps an outcome, if there is one.
-fn keep(outcomes: &mut Vec<Outcome>, outcome: Option<Outcome>) -> Result<(), AllocError>
-    ensures { OnOk result (outcomes.new.items ≡ outcomes.old.items ++ option_to_list outcome) }
-{
-    if let Some(outcome) = outcome {
-        outcomes.push(outcome)?;
-    }
-    Ok(())
-}
-
 // Judges the lines of a list over a source, one after another. The report of each is written before the next is judged, and
 // before each formula its number is told where there are several. Answers the outcomes of the formulas.
 pub fn report_list<S: Source, W: Write, P: Write>(
@@ -95,7 +85,7 @@ pub fn report_list<S: Source, W: Write, P: Write>(
     for (index, line) in lines.iter().enumerate() {
         tell_line(progress, outcomes.len() + 1, formulas, line)?;
         let outcome = report_line(heap, source, index + 1, line, out)?;
-        keep(&mut outcomes, outcome)?;
+        outcomes.extend(outcome)?;
     }
     Ok(outcomes)
 }

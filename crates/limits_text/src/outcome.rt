@@ -1,6 +1,7 @@
-ghost use Rattle.std.specs.Prelude.{◌≡◌, Some, count_by, ◌==◌};
+ghost use Rattle.std.specs.Prelude.{◌≡◌, Some};
 ghost use Rattle.limits_text.specs.Outcomes.{counts_of, counts_text, outcome_of};
 
+use crate::count::how_many;
 use std::fmt;
 
 // How many states of a formula are a yes, a no and undecided.
@@ -19,14 +20,6 @@ pub enum Outcome {
     Fails,
     Undecided,
     Refused,
-}
-
-// How many bytes of a row are this one. The summary counts outcomes by the same chain, and a judge its verdicts: a function for all
-// would stand in a crate below and be this one line.
-fn how_many(byte: u8, row: &[u8]) -> usize
-    ensures { result ≡ count_by (λ b. b == byte) row.now }
-{
-    row.iter().filter(|other| **other == byte).count()
 }
 
 impl Counts {

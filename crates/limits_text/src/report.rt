@@ -8,16 +8,18 @@ ghost use Rattle.limits_text.specs.Reports.{formula_report, refusal_report, Repo
 use crate::item::Item;
 use crate::outcome::{Counts, Outcome};
 use crate::table::table;
-use formula_text::answer::BLANK;
 use formula_text::words::judge_refusal;
 use model::source::Source;
 use printing::caret::shown_line;
 use records::fault::JudgeFault;
+use records::record::BLANK;
 use std::alloc::{AllocError, Global};
 use trial::judge::judge_with_ends;
 use trial::two_ends::Ends;
 
-// The report of a formula by its text, its row of verdict bytes, and the ends that this was read off if there are any.
+// The report of a formula by its text, its row of verdict bytes, and the ends that this was read off if there are any. Here and
+// below `heap` and `text` are two arguments: the heap goes to whatever wants memory and is no part of a text. The clause, as those
+// of a table, holds of whatever ends `two` are told: a ghost field is a fact over the fields of its struct, and `two` is in none.
 fn formula_report(
     heap: Global,
     text: &[u8],

@@ -1,6 +1,7 @@
 ghost use Rattle.std.specs.Prelude.{◌≡◌, Some};
-ghost use Rattle.limits_text.specs.Summaries.{how_many, summary_of, summary_line, summary_text};
+ghost use Rattle.limits_text.specs.Summaries.{summary_of, summary_line, summary_text};
 
+use crate::count::how_many;
 use crate::outcome::Outcome;
 use std::fmt;
 
@@ -13,13 +14,6 @@ pub struct Summary {
     pub fail: usize,
     pub undecided: usize,
     pub refused: usize,
-}
-
-// How many of some outcomes are this one.
-fn how_many(outcome: Outcome, outcomes: &[Outcome]) -> usize
-    ensures { result ≡ how_many outcome outcomes.now }
-{
-    outcomes.iter().filter(|other| **other == outcome).count()
 }
 
 impl Summary {

@@ -63,7 +63,8 @@ fn heading(ends: Option<&Ends>) -> &'static str
     }
 }
 
-// Both ends at a state, in units, if there are ends.
+// Both ends at a state, in units, if there are ends. They are told as `two` here and below, for the reason that the
+// report of a formula has.
 fn units_at(ends: Option<&Ends>, state: usize) -> Option<(u32, u32)>
     ensures { (n : ℕ) (two : Option TwoEnds) → Told n two (option_map (λ x. x.now) ends.entry) → state < n → result ≡ units_at two state }
 {

@@ -8,7 +8,8 @@ pub struct Labels {
     ghost sixteen: { length letters ≡ 16 },
 }
 
-// The empty set is what a state has of labels by default.
+// The empty set is what a state has of labels by default. It is written out: a derive is refused where a struct has a ghost
+// field.
 impl Default for Labels {
     ghost is_default = { λ l. l.letters ≡ no_labels };
 

@@ -2,7 +2,8 @@ use crate::models::{RETRY, THIRDS, table};
 use crate::rule::Pairs;
 use ladder::ladder::Ladder;
 use rounds::fault::RoundsFault;
-use rounds::run::rounds;
+use rounds::interval::Interval;
+use rounds::run::{rounds, rounds_of_ends};
 use rounds::settle::settle;
 use rules::fault::PartFault;
 use rules::marks::Marks;
@@ -20,11 +21,7 @@ const WHOLE: u32 = 1_000_000_000;
 
 // Parts of these units.
 fn three(units: [u32; 3]) -> Result<[Part; 3], Fail> {
-    Ok([
-        Part::try_from(units[0])?,
-        Part::try_from(units[1])?,
-        Part::try_from(units[2])?,
-    ])
+    Ok(units.try_map(Part::try_from)?)
 }
 
 // The units of these parts.
@@ -94,6 +91,58 @@ fn thirds_are_rounded(rt: HostRuntime) -> Result<(), Fail> {
     assert_eq!(rt; thirds(&rt, 1)?, (333_333_333, 333_333_334));
     assert_eq!(rt; thirds(&rt, 2)?, (555_555_555, 555_555_556));
     assert_eq!(rt; thirds(&rt, 100_000)?, (999_999_998, WHOLE));
+    Ok(())
+}
+
+// The interval between so many units.
+fn interval(ends: (u32, u32)) -> Result<Interval, PartFault> {
+    Ok(Interval {
+        lower: Part::try_from(ends.0)?,
+        upper: Part::try_from(ends.1)?,
+    })
+}
+
+// Those of three states.
+fn both(ends: [(u32, u32); 3]) -> Result<[Interval; 3], Fail> {
+    Ok(ends.try_map(interval)?)
+}
+
+// The best lower and the best upper mix of state 0 are those of different choices.
+#[test]
+fn each_end_has_its_own_choice(rt: HostRuntime) -> Result<(), Fail> {
+    let source = table(rt.alloc(), RETRY)?;
+    let start = both([(100, 100), (100, 110), (20, 200)])?;
+    let mut ends = start;
+    let mut spare = start;
+    rounds_of_ends(&source, Preference::Greater, &mut ends, &mut spare, 1)?;
+    assert_eq!(rt; ends, both([(100, 155), (100, 110), (20, 200)])?);
+    assert_eq!(rt; spare, start);
+    let mut ends = start;
+    rounds_of_ends(&source, Preference::Lesser, &mut ends, &mut spare, 1)?;
+    assert_eq!(rt; ends, both([(60, 108), (100, 110), (20, 200)])?);
+    Ok(())
+}
+
+#[test]
+fn refused_rounds_of_ends_leave_both_lists(rt: HostRuntime) -> Result<(), Fail> {
+    let source = table(rt.alloc(), RETRY)?;
+    let start = both([(0, 0), (WHOLE, WHOLE), (0, 0)])?;
+    let before = both([(7, 8), (7, 8), (7, 8)])?;
+    let mut ends = start;
+    let mut spare = before;
+    assert_eq!(rt;
+        rounds_of_ends(&source, Preference::Greater, &mut ends[..2], &mut spare, 1),
+        Err(RoundsFault::Lengths)
+    );
+    assert_eq!(rt;
+        rounds_of_ends(&source, Preference::Greater, &mut ends, &mut spare, 100_001),
+        Err(RoundsFault::Count)
+    );
+    assert_eq!(rt; ends, start);
+    assert_eq!(rt; spare, before);
+    rounds_of_ends(&source, Preference::Greater, &mut ends, &mut spare, 0)?;
+    assert_eq!(rt; ends, start);
+    assert_eq!(rt; spare, before);
     Ok(())
 }
 

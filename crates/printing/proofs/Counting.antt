@@ -1,5 +1,5 @@
 -- How many choices and branches a lawful model has, as sums over its states.
-use Rattle.std.proofs.Common.{◌≡◌, ℕ, ◌+◌, ◌*◌, ◌<◌, ◌≤◌, ◌^◌, List, [], ◌∷◌, ◌++◌, map, length, sym, refl, ap, ◌∙◌, append_assoc, arith, length-append}
+use Rattle.std.proofs.Common.{◌≡◌, ℕ, ◌*◌, ◌<◌, ◌≤◌, ◌^◌, List, [], ◌∷◌, map, length, refl, ap, ◌∙◌, arith, length-append}
 use Rattle.std.specs.List.{range_with_len, sum_by}
 use Rattle.std.proofs.lemmas.List.FromFn.{fill_by_all, length-range_with_len}
 use Rattle.std.proofs.lemmas.List.Elements.{All-from_get_or}
@@ -11,25 +11,17 @@ use Rattle.std.specs.Iterator.Adapters.{map_source, map_callee}
 use Rattle.std.proofs.iter.Yields.{nat_range_steps}
 use Rattle.std.proofs.lemmas.Iterator.{YieldsList, maps, YieldsList-from_range, YieldsList-from_map}
 use denote.Param.Members.{Mut}
-use Rattle.model.specs.Mdp.{Mdp, Row, row, Ascends, LawfulRow, Each, Lawful}
+use Rattle.model.specs.Mdp.{Mdp, Row, row, LawfulRow, Each, Lawful}
+use Rattle.model.proofs.Rows.{ascends_short}
 use Rattle.text.specs.Contents.{all_choices, all_branches}
+use Rattle.text.proofs.Joining.{branches_append}
 use Rattle.printing.specs.Layouts.{state_of}
 
--- the branches of rows one after another
-all_branches_append : (a b : List Row) → all_branches (a ++ b) ≡ all_branches a ++ all_branches b
-all_branches_append [] b = refl
-all_branches_append (r ∷ rs) b = ap (λ t. r ++ t) (all_branches_append rs b) ∙ sym (append_assoc r (all_branches rs) (all_branches b))
-
--- a row that ascends below n has at most n branches
-row_short : (n low : ℕ) (r : Row) → Ascends n low r → low ≤ n → low + length r ≤ n
-row_short n low [] up h = omega arith
-row_short n low (b ∷ bs) up h = let rest = row_short n (b.target + 1) bs up.3 (omega arith) in omega arith
-
--- so lawful rows have at most 512 branches each
+-- lawful rows have at most 512 branches each
 rows_short : (n d : ℕ) (rs : List Row) → n ≤ 512 → Each (LawfulRow n d) rs → length (all_branches rs) ≤ 512 * length rs
 rows_short n d [] h each = omega arith
 rows_short n d (r ∷ rs) h each =
-    let one = row_short n 0 r each.0.ascends (omega arith) in
+    let one = ascends_short n 0 r each.0.ascends (omega arith) in
     let rest = rows_short n d rs h each.1 in
     simp length-append (omega arith)
 
@@ -69,7 +61,7 @@ module _ (m : Mdp) where
   -- the branches of several states
   pub branches_counted : (ns : List ℕ) → length (all_branches (all_choices (map (state_of m) ns))) ≡ sum_by branches_at ns
   branches_counted [] = refl
-  branches_counted (s ∷ ns) = simp (all_branches_append, length-append, branches_counted ns, sum_by-cons)
+  branches_counted (s ∷ ns) = simp (branches_append, branches_counted ns, sum_by-cons)
 
   -- the branches of the choices of a state
   pub state_counted : (s : ℕ) → branches_at s ≡ sum_by (branches_of s) (range_with_len 0 (choices_at s))

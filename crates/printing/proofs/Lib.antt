@@ -1,4 +1,3 @@
-pub mod Spelling
 pub mod Cutting
 pub mod Laying
 pub mod Texts

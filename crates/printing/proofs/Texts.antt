@@ -1,18 +1,14 @@
 -- A content that is laid out as model text is its text.
 use Rattle.std.proofs.Common.{◌≡◌, ℕ, ◌+◌, List, [], ◌∷◌, ◌++◌, length, codes, sym, refl, ap, ◌∙◌, append_assoc, append-nil}
 use Rattle.model.specs.Mdp.{Row}
-use Rattle.text.specs.Cuts.{Line, spelled, parted}
+use Rattle.text.specs.Cuts.{spelled}
 use Rattle.text.specs.Contents.{State}
 use Rattle.text.specs.Texts.{row_lines, choices_lines, states_lines, end_line, text_of}
+use Rattle.text.proofs.Joining.{spelled_append}
 use Rattle.std.proofs.lemmas.List.FromFn.{length-map-range_with_len}
 use Rattle.model.specs.Mdp.{Mdp}
 use Rattle.printing.specs.Layouts.{laid, laid_choice, laid_state, laid_states, state_of, model_content}
 use Rattle.printing.specs.Listings.{model_text, framed}
-
--- lines one after another are spelled one after another
-spelled_append : (a b : List Line) → spelled (a ++ b) ≡ spelled a ++ spelled b
-spelled_append [] b = refl
-spelled_append (l ∷ ls) b = ap (λ t. parted l ++ (10 ∷ t)) (spelled_append ls b) ∙ sym (append_assoc (parted l) (10 ∷ spelled ls) (spelled b))
 
 -- the branches of a row
 row_text : (r : Row) (i : ℕ) → laid model_text.branch i r ≡ spelled (row_lines r)

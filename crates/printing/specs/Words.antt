@@ -55,10 +55,13 @@ abbrev pub field_text : Option FieldPlace → List ℕ
 field_text None = []
 field_text (Some at) = codes " field " ++ (decimal at.field ++ (codes " length " ++ decimal at.length))
 
+-- what a text's refusal begins with: the number and the place of its fault
+abbrev pub refused_at : FileFault → List ℕ
+refused_at f = codes "refused " ++ (decimal (file_fault_number f) ++ (codes " line " ++ (decimal (fault_line f) ++ field_text (fault_field f))))
+
 -- the first line of a text's refusal: its number, its place and its words
 abbrev pub file_refusal : FileFault → List ℕ
-file_refusal f =
-    codes "refused " ++ (decimal (file_fault_number f) ++ (codes " line " ++ (decimal (fault_line f) ++ (field_text (fault_field f) ++ (codes ": " ++ file_words f)))))
+file_refusal f = refused_at f ++ (codes ": " ++ file_words f)
 
 -- the line of a refusal that has no place in a text: its number and its words
 abbrev pub refusal_line : ℕ → List ℕ → List ℕ

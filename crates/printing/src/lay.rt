@@ -6,8 +6,9 @@ use crate::style::Style;
 use model::source::Source;
 use std::alloc::{AllocError, Global};
 
-// A source to be laid out in a style, and where the text is made. Each part is a text of its own, so that its contract says what it
-// is: of parts that write into one text, each would have to say what stood there before.
+// A source to be laid out in a style, and where the text is made. Each part is a text of its own, and is proved here once for both
+// styles, by what a style says of its texts. A `Display` would say as much by its `output`, but be a type for each part of a style,
+// in each style, besides one for each loop here.
 #[derive(Clone, Copy)]
 pub(crate) struct Laid<'a, S, L> {
     heap: Global,

@@ -1,7 +1,7 @@
 ghost use Rattle.std.specs.Prelude.{◌≡◌, ℕ, List, Some, IfOk, string_bytes};
 ghost use Rattle.ladder.specs.Refusals.{fault_number};
 ghost use Rattle.layers.specs.HoldAnswers as hold_answers;
-ghost use Rattle.printing.specs.Words.{field_words, line_words, file_words, ladder_words, hold_words, field_text, file_refusal, refusal_line};
+ghost use Rattle.printing.specs.Words.{field_words, line_words, file_words, ladder_words, hold_words, field_text, refused_at, file_refusal, refusal_line};
 
 use ladder::fault::LadderFault;
 use layers::fault::HoldFault;
@@ -145,15 +145,29 @@ impl fmt::Display for InField {
     }
 }
 
+// What a text's refusal begins with: the number and the place of its fault.
+#[derive(Clone, Copy)]
+pub struct Refused(pub FileFault);
+
+impl fmt::Display for Refused {
+    ghost output = { λ r. Some (refused_at r.0) };
+
+    fn fmt<W: fmt::Write>(&self, f: &mut fmt::Formatter<W>) -> fmt::Result {
+        let Refused(fault) = self;
+        let number = fault.number();
+        let line = fault.line();
+        let field = InField(fault.field());
+        write!(f, "refused {number} line {line}{field}")
+    }
+}
+
 // The first line of a text's refusal: its number, its place and its words.
 pub(crate) fn file_refusal(heap: Global, fault: &FileFault) -> Result<String, AllocError>
     ensures { IfOk result (λ s. string_bytes s ≡ file_refusal fault.now) }
 {
-    let number = fault.number();
-    let line = fault.line();
-    let field = InField(fault.field());
+    let refused = Refused(*fault);
     let words = file_words(fault);
-    format!(in heap; "refused {number} line {line}{field}: {words}")
+    format!(in heap; "{refused}: {words}")
 }
 
 // The line of a refusal that has no place in a text: its number and its words.

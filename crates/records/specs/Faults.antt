@@ -1,5 +1,5 @@
--- The number of each fault, and its place in the text.
-use Rattle.std.specs.Prelude.{ℕ}
+-- The number of each fault, its place in the text, and what its refusal begins with.
+use Rattle.std.specs.Prelude.{ℕ, List, ◌++◌, codes, decimal}
 use Rattle.records.specs.declared.fault.FormulaFault.{FormulaFault}
 use Rattle.records.specs.declared.fault.FormulaFault.TheVariants.{NoFormula, Number, Depth, Records, Until}
 use Rattle.records.specs.declared.fault.JudgeFault.{JudgeFault}
@@ -34,3 +34,7 @@ judge_fault_place Length = 0
 judge_fault_place (Formula fault) = formula_fault_place fault
 judge_fault_place Scratch = 0
 judge_fault_place Out = 0
+
+-- what the refusal of a judge begins with: the number and the place of its fault
+abbrev pub judge_refused_at : JudgeFault → List ℕ
+judge_refused_at f = codes "refused " ++ (decimal (judge_fault_number f) ++ (codes " place " ++ decimal (judge_fault_place f)))

@@ -1,6 +1,8 @@
-ghost use Rattle.std.specs.Prelude.{◌≡◌};
-ghost use Rattle.records.specs.Faults.{formula_fault_number, formula_fault_place, judge_fault_number, judge_fault_place};
+ghost use Rattle.std.specs.Prelude.{◌≡◌, Some};
+ghost use Rattle.records.specs.Faults.{formula_fault_number, formula_fault_place, judge_fault_number, judge_fault_place, judge_refused_at};
 ghost use Rattle.records.specs.declared.fault.JudgeFault.TheVariants.{Formula};
+
+use std::fmt;
 
 // Why a text is refused as a formula: it is none, one of its numbers is too large, it is too deep, it has too many
 // formulas or too few records are lent, or an until without steps stands under none of its three bounds.
@@ -79,5 +81,16 @@ impl JudgeFault {
             JudgeFault::Formula(fault) => fault.place(),
             JudgeFault::Length | JudgeFault::Scratch | JudgeFault::Out => 0,
         }
+    }
+}
+
+// What the refusal of a judge begins with: the number and the place of its fault.
+impl fmt::Display for JudgeFault {
+    ghost output = { λ f. Some (judge_refused_at f) };
+
+    fn fmt<W: fmt::Write>(&self, f: &mut fmt::Formatter<W>) -> fmt::Result {
+        let number = self.number();
+        let place = self.place();
+        write!(f, "refused {number} place {place}")
     }
 }

@@ -32,6 +32,18 @@ pub struct Record {
     pub undecided: usize,
 }
 
+// A record with nothing in it, for room that is lent. `Record` has no `Default`: none of them stands for no formula.
+pub const BLANK: Record = Record {
+    kind: Kind::Truth,
+    first: 0,
+    second: 0,
+    comparison: None,
+    number: 0,
+    steps: 0,
+    yes: 0,
+    undecided: 0,
+};
+
 impl Kind {
     // The number of the kind.
     pub fn number(self) -> u8

@@ -5,7 +5,7 @@ use pairs::models::{THIRDS, table};
 use pairs::rule::Pairs;
 use records::comparison::Comparison;
 use records::fault::{FormulaFault, JudgeFault};
-use records::record::{Kind, Record};
+use records::record::{BLANK, Kind, Record};
 use replay::replay::replay;
 use ring::ring::Ring;
 use rounds::run::rounds;
@@ -25,7 +25,8 @@ const THIRD: &[u8] = b"P<=333333333[trueU<=1a]";
 const FORMULAS_65: &[u8] =
     b"!!((a&(a&(a&(a&(a&(a&(a&(a&(a&(a&(a&(a&(a&(a&(a&a)))))))))))))))&(a&(a&(a&(a&(a&(a&(a&(a&(a&(a&(a&(a&(a&(a&(a&a))))))))))))))))";
 
-// What the lent records are before a judge.
+// What the lent records are before a judge: like no record that is judged, so a change is seen. The cases of the formula reader
+// have the same: it is a value for tests, and there is no crate of tests that both use.
 const BEFORE: Record = Record {
     kind: Kind::Until,
     first: 77,
@@ -38,16 +39,7 @@ const BEFORE: Record = Record {
 };
 
 // A record of kind and counts alone.
-const PLAIN: Record = Record {
-    kind: Kind::Truth,
-    first: 0,
-    second: 0,
-    comparison: None,
-    number: 0,
-    steps: 0,
-    yes: 2,
-    undecided: 0,
-};
+const PLAIN: Record = Record { yes: 2, ..BLANK };
 
 // The records of THIRD on THIRDS, with one behind them that is not used.
 const JUDGED: [Record; 4] = [

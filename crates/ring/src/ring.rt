@@ -36,7 +36,7 @@ impl Source for Ring {
     }
 
     fn choices(&self, state: usize) -> usize {
-        if state < self.states { 1 } else { 0 }
+        usize::from(state < self.states)
     }
 
     fn branches(&self, state: usize, choice: usize) -> usize {

@@ -1,4 +1,5 @@
 pub mod Rows
 pub mod Bests
 pub mod Lists
+pub mod Backups
 pub mod Settling

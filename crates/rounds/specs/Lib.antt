@@ -1,3 +1,5 @@
 pub mod Refusals
 pub mod Runs
 pub mod Settles
+pub mod Backups
+pub mod Ends

@@ -22,6 +22,13 @@ module _ {V : Type 0} (preferred : V → V → Bool) (mix : ℕ → List (ℕ ×
   spare_after spare d zero = spare
   spare_after spare d (suc k) = values_after d k
 
+module _ {V : Type 0} (m : Mdp) (k : ℕ) (values spare : List V) (values' spare' : List V) where
+  -- k rounds are refused: both lists are as they were
+  pub record Refused (e : RoundsFault) : Type 0 where
+    pub asked : rounds_fault m.states (length values) (length spare) k ≡ Some e
+    pub first : values' ≡ values
+    pub second : spare' ≡ spare
+
 module _ {V : Type 0} (preferred : V → V → Bool) (mix : ℕ → List (ℕ × V) → V) (m : Mdp) (k : ℕ) (values spare : List V) (values' spare' : List V) where
   -- k rounds are run: both lists are as defined, and at each state the first now holds the optimum over all adversaries with k steps
   -- d stands for a value past the end of a list, and is never read
@@ -31,13 +38,7 @@ module _ {V : Type 0} (preferred : V → V → Bool) (mix : ℕ → List (ℕ ×
     pub second : (d : V) → spare' ≡ spare_after preferred mix m values spare d k
     pub optimal : (d : V) (s : ℕ) → s < m.states → Optimum preferred mix m (told values d) k s (slice_index_or values' s d)
 
-  -- they are refused: both lists are as they were
-  pub record Refused (e : RoundsFault) : Type 0 where
-    pub asked : rounds_fault m.states (length values) (length spare) k ≡ Some e
-    pub first : values' ≡ values
-    pub second : spare' ≡ spare
-
   -- what the call answers and leaves
   abbrev pub Ran : Result (Unit {0}) RoundsFault → Type 0
   Ran (Ok _) = RoundsRun
-  Ran (Err e) = Refused e
+  Ran (Err e) = Refused m k values spare values' spare' e

@@ -2,7 +2,10 @@
 // It may use the crates model, theory and rules.
 #![tactic(auto)]
 
+mod backup;
+mod ends;
 pub mod fault;
+pub mod interval;
 mod lengths;
 mod round;
 pub mod run;

@@ -1,5 +1,6 @@
 ghost use Rattle.rounds.specs.Settles.{Settling};
 
+use crate::backup::ByRule;
 use crate::fault::RoundsFault;
 use crate::lengths::check_lengths;
 use crate::step::one_round;
@@ -22,6 +23,7 @@ pub fn settle<S: Source>(
 {
     let states = source.states();
     check_lengths(states, marks.len(), spare.len())?;
+    let backup = ByRule { rule };
     let mut buffer = [Branch::default(); STATES];
     let mut done = 0;
     // It is a rule of the project that the fixed point of marks is a `loop` that yields the round reached by `break`.
@@ -29,7 +31,7 @@ pub fn settle<S: Source>(
         if done > states {
             break None;
         }
-        one_round(source, rule, marks, spare, &mut buffer);
+        one_round(source, &backup, marks, spare, &mut buffer);
         done += 1;
         if *marks == *spare {
             break Some(done);

@@ -1,5 +1,5 @@
 -- What rounds answer and leave is what is printed of them.
-use Rattle.std.proofs.Common.{◌≡◌, ℕ, Bool, true, false, cond, List, map, length, Some, Ok, Err, Option, Result, Vec, vec_items, sym, refl, ap, ap₂, ◌∙◌}
+use Rattle.std.proofs.Common.{◌≡◌, ℕ, Bool, true, cond, List, map, length, Some, Ok, Option, Result, Vec, vec_items, sym, ap, ap₂, ◌∙◌}
 use Rattle.std.specs.declared.alloc.Global.{Global}
 use Rattle.std.specs.Option.{option_map}
 use Rattle.std.specs.Result.{result_map_both}
@@ -7,6 +7,7 @@ use Rattle.std.specs.List.{list_all}
 use Rattle.std.proofs.lemmas.List.{length-map}
 use Rattle.std.proofs.lemmas.List.FromFn.{length-map-range_with_len}
 use Rattle.model.specs.Mdp.{Mdp}
+use Rattle.text.proofs.Asking.{checked}
 use Rattle.rules.specs.declared.fault.PartFault.{PartFault}
 use Rattle.rules.specs.declared.fault.PartFault.TheVariants.{Units}
 use Rattle.rounds.specs.declared.fault.RoundsFault.{RoundsFault}
@@ -16,11 +17,6 @@ use Rattle.rounds_text.specs.declared.fault.RequestFault.TheVariants.{Part, Roun
 use Rattle.rounds_text.specs.Numberings.{Numbering, values_made}
 use Rattle.rounds_text.specs.Refusals.{numbers_fault}
 use Rattle.rounds_text.specs.Requests.{lists_text, rounds_text}
-
--- what is made has passed
-made : {A : Type 0} (passes : Bool) (x y : A) (r : Result A PartFault) → r ≡ Ok x → r ≡ cond passes (Ok y) (Err Units) → (passes ≡ true) × (x ≡ y)
-made true x y r is e = (refl, cc)
-made false x y r is e = absurd (cc)
 
 module _ {V : Type 0} (v : Numbering V) (m : Mdp) (numbers : List ℕ) where
   -- rounds begin from these lists: the values that the numbers stand for, and a 0 for each state
@@ -33,7 +29,7 @@ module _ {V : Type 0} (v : Numbering V) (m : Mdp) (numbers : List ℕ) where
   pub begun : (r : Result (Vec V Global) PartFault) (w : Vec V Global) (first second zeros : List V) (n : ℕ) → r ≡ Ok w → result_map_both vec_items (λ e. e) r ≡ values_made v numbers → first ≡ vec_items w
       → second ≡ zeros → zeros ≡ listed n (λ s. v.value 0) → n ≡ m.states → Begun first second
   begun r w first second zeros n is e lent other fresh count =
-      let passed = made (list_all v.lawful numbers) (vec_items w) (map v.value numbers) (result_map_both vec_items (λ e. e) r) (ap (result_map_both vec_items (λ e. e)) is) e in
+      let passed = checked (list_all v.lawful numbers) (vec_items w) (map v.value numbers) (result_map_both vec_items (λ e. e) r) Units e (ap (result_map_both vec_items (λ e. e)) is) in
       record { lawful = passed.0; values = lent ∙ passed.1; zeros = other ∙ fresh ∙ ap (λ k. listed k (λ s. v.value 0)) count }
 
   module _ (k : ℕ) {first second : List V} (b : Begun first second) where

@@ -6,7 +6,7 @@ use std::alloc::{AllocError, Global};
 use text::number::long_number;
 
 // The numbers that a word writes, parted by commas; none where a piece of it is no number. By a loop, since `try_collect` has one
-// error for this and for a want of memory.
+// error for this and for a want of memory, and `collect`, which makes an `Option` of a list besides, promises nothing of it.
 pub fn numbers(heap: Global, word: &[u8]) -> Result<Option<Vec<u64>>, AllocError>
     ensures { IfOk result (λ given. option_map vec_items given ≡ numbers_given word.now) }
 {

@@ -4,8 +4,9 @@ ghost use Rattle.std.specs.Prelude.{◌≡◌};
 use rules::fault::PartFault;
 use rules::part::Part;
 
-// A value of a rule that is given and printed as a number. The functions stand in a trait of their own and not in `TryFrom` and
-// `From`, which no crate may write for marks, as for a `bool`.
+// A value of a rule that is given and printed as a number. The functions stand in a trait of their own: no crate may write
+// `TryFrom<u64>` for a `bool`. That has `Default`, and `u64` has `From` it, but a part has neither, and with both a law would
+// still have to tie the three to one numbering.
 pub trait Numbered: Copy {
     // which numbers stand for values, and the number of each value
     ghost numbering: { Numbering Self };
@@ -37,7 +38,7 @@ impl Numbered for Part {
     }
 
     fn number(self) -> u64 {
-        self.units() as u64
+        u64::from(self.units())
     }
 }
 

@@ -8,7 +8,8 @@ use rules::fault::PartFault;
 use std::alloc::{AllocError, Global};
 
 // The values that numbers stand for, or why one of them stands for none. By a loop: this and a want of memory each end it with an
-// answer of its own, and `try_collect` has one error for both.
+// answer of its own. `try_collect` has one error for both, and `collect`, which makes a `Result` of a list besides, promises
+// nothing of it.
 pub(crate) fn values<V: Numbered>(
     heap: Global,
     numbers: &[u64],

@@ -63,6 +63,11 @@ module _ {V W : Type 0} (f : V → W) where
   carried_valued v [] = refl
   carried_valued v (b ∷ bs) = ap (λ l. (b.weight, f (v b.target)) ∷ l) (carried_valued v bs)
 
+-- a row carried over twice
+pub carried_twice : {U V W : Type 0} (f : U → V) (g : V → W) (ps : List (ℕ × U)) → carried g (carried f ps) ≡ carried (λ u. g (f u)) ps
+carried_twice f g [] = refl
+carried_twice f g (p ∷ ps) = ap (λ l. (p.0, g (f p.1)) ∷ l) (carried_twice f g ps)
+
 module _ {V W : Type 0} (f : V → W) (goodV : V → V → Bool) (mixV : ℕ → List (ℕ × V) → V) (goodW : W → W → Bool) (mixW : ℕ → List (ℕ × W) → W)
     (good_same : (a b : V) → goodV a b ≡ goodW (f a) (f b))
     (mix_same : (d : ℕ) (ps : List (ℕ × V)) → LawfulMix d ps → f (mixV d ps) ≡ mixW d (carried f ps))

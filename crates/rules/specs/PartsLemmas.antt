@@ -30,12 +30,12 @@ pub part_same : (a b : Part) → units_of a ≡ units_of b → a ≡ b
 unfolding make
 part_same a b e = make_same a.units b.units a.within b.within e
 
--- no weighted sum of parts is above the weights times the whole
-pub sum_bound : (ps : List (ℕ × Part)) → sum_of (carried units_of ps) ≤ whole * total_weight ps
-sum_bound [] = omega arith
-sum_bound (p ∷ ps) =
-    let rest = sum_bound ps in
-    let one = mul-le-mul_left p.0 p.1.within in
+-- no weighted sum of the parts that values have is above the weights times the whole
+pub sum_bound : {V : Type 0} (f : V → Part) (ps : List (ℕ × V)) → sum_of (carried (λ v. units_of (f v)) ps) ≤ whole * total_weight ps
+sum_bound f [] = omega arith
+sum_bound f (p ∷ ps) =
+    let rest = sum_bound f ps in
+    let one = mul-le-mul_left p.0 (f p.1).within in
     omega (arith, mul-add whole p.0 (total_weight ps))
 
 -- a quotient of a sum that is small enough is at most the whole
@@ -50,10 +50,10 @@ Bounded mix = (d : ℕ) (ps : List (ℕ × Part)) → LawfulMix d ps → mix d (
 rounded_bounded : (r : Rounding) → Bounded (mix_rounded r)
 rounded_bounded Down d ps l =
     let some = l.some_unit in
-    quotient_bound d (sum_of (carried units_of ps)) some (omega (arith, sum_bound ps, ap (λ n. whole * n) l.sums))
+    quotient_bound d (sum_of (carried units_of ps)) some (omega (arith, sum_bound (λ p. p) ps, ap (λ n. whole * n) l.sums))
 rounded_bounded Up d ps l =
     let some = l.some_unit in
-    quotient_bound d (sum_of (carried units_of ps) + (d - 1)) some (omega (arith, sum_bound ps, ap (λ n. whole * n) l.sums))
+    quotient_bound d (sum_of (carried units_of ps) + (d - 1)) some (omega (arith, sum_bound (λ p. p) ps, ap (λ n. whole * n) l.sums))
 
 module _ (mix : ℕ → List (ℕ × ℕ) → ℕ) (bounded : Bounded mix) (laws : (p : Preference) → RuleLaws (prefers_number p) mix) (p : Preference) where
   -- the units of a mix of parts are the mix of their units

@@ -1,5 +1,8 @@
 ghost use Rattle.std.specs.Prelude.{◌≡◌, ◌/◌, ◌-◌, ◌^◌, ◌≤◌, MatchOption};
+ghost use Rattle.rules.specs.Parts.{part_of};
 
+use crate::part::Part;
+use crate::units::WHOLE;
 use model::limits::DENOMINATOR;
 use model::source::Source;
 
@@ -24,7 +27,7 @@ impl Denominator {
         }
         Some(Denominator {
             value,
-            reciprocal: u64::MAX / value as u64,
+            reciprocal: u64::MAX / u64::from(value),
         })
     }
 
@@ -40,12 +43,21 @@ impl Denominator {
     pub(crate) fn quotient(&self, number: u64) -> u64
         ensures { result ≡ number / self.now.value }
     {
-        let value = self.value as u64;
-        let near = ((number as u128 * self.reciprocal as u128) >> 64) as u64;
+        let value = u64::from(self.value);
+        let near = ((u128::from(number) * u128::from(self.reciprocal)) >> 64) as u64;
         if number - near * value < value {
             near
         } else {
             near + 1
+        }
+    }
+
+    // The part that a number is of the denominator, rounded down; the whole where it would be more.
+    pub fn part(&self, number: u64) -> Part
+        ensures { result ≡ part_of (number / self.now.value) }
+    {
+        Part {
+            units: self.quotient(number).min(u64::from(WHOLE)) as u32,
         }
     }
 }

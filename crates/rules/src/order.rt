@@ -5,7 +5,7 @@ use crate::preference::Preference;
 
 impl Preference {
     // Is `a` at least as preferred as `b`, by the order of their type?
-    pub(crate) fn prefers<T: PartialOrd + Drop>(self, a: T, b: T) -> bool
+    pub fn prefers<T: PartialOrd + Drop>(self, a: T, b: T) -> bool
         ensures { result ≡ at_least_as_preferred T.partial_cmp self a b }
     {
         match self {

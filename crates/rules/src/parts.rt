@@ -6,7 +6,7 @@ use crate::part::Part;
 use crate::preference::Preference;
 use crate::rounding::Rounding;
 use crate::rule::Rule;
-use crate::sum::{quotient, weighted_sum};
+use crate::sum::weighted_sum;
 use model::branch::Branch;
 
 // The rule of parts: the mix is the weighted mean, rounded down or up.
@@ -32,8 +32,8 @@ impl Rule for Parts {
     fn mix(&self, denominator: &Denominator, row: &[Branch], values: &[Part]) -> Part {
         let sum = weighted_sum(denominator, row, values);
         match self.rounding {
-            Rounding::Down => quotient(sum, denominator),
-            Rounding::Up => quotient(sum + (denominator.value as u64 - 1), denominator),
+            Rounding::Down => denominator.part(sum),
+            Rounding::Up => denominator.part(sum + (u64::from(denominator.value) - 1)),
         }
     }
 }

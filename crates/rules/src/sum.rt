@@ -1,4 +1,4 @@
-ghost use Rattle.std.specs.Prelude.{◌≡◌, ℕ, ◌+◌, ◌*◌, ◌/◌, ◌<◌, ◌≤◌, length};
+ghost use Rattle.std.specs.Prelude.{◌≡◌, ◌*◌, ◌≤◌, length};
 ghost use Rattle.model.specs.Mdp.{LawfulRow};
 ghost use Rattle.theory.specs.Mixes.{sum_of, whole};
 ghost use Rattle.theory.specs.Rules.{valued};
@@ -20,17 +20,7 @@ pub(crate) fn weighted_sum(denominator: &Denominator, row: &[Branch], values: &[
     // A loop over the row's branches, by a rule of the project; of a chain that maps and sums them, what the closure gives
     // for a branch stays open.
     for branch in row {
-        sum += branch.weight as u64 * values[branch.target].units as u64;
+        sum += u64::from(branch.weight) * u64::from(values[branch.target].units);
     }
     sum
-}
-
-// The part that a sum is of the denominator, rounded down.
-pub(crate) fn quotient(sum: u64, denominator: &Denominator) -> Part
-    requires { sum < (whole + 1) * denominator.now.value }
-    ensures { result.units ≡ sum / denominator.now.value }
-{
-    Part {
-        units: denominator.quotient(sum) as u32,
-    }
 }

@@ -28,7 +28,7 @@ impl<'a> Page<'a> {
 }
 
 impl Page<'_> {
-    // One byte.
+    // One byte. A write through `get_mut` did not prove: a test of the place and a write by index stand for it.
     fn byte(&mut self, byte: u8)
         ensures { Put (byte ∷ []) self.old self.new }
     {

@@ -1,7 +1,11 @@
 pub mod Cutting
+pub mod Parts
 pub mod Spellings
 pub mod Longest
 pub mod Ranges
 pub mod Digits
 pub mod Calls
 pub mod Letters
+pub mod Flags
+pub mod Joining
+pub mod Asking

@@ -1,8 +1,7 @@
 -- The longest beginning of a list that passes a test.
-use Rattle.std.proofs.Common.{◌≡◌, ℕ, zero, suc, ◌<◌, ◌≤◌, Bool, true, false, ◌⊎◌, List, length, take, cond, Ok, Err, Result, sym, refl, ap, ◌∙◌, inl, inr, ⊎_elim, arith}
+use Rattle.std.proofs.Common.{◌≡◌, ℕ, zero, suc, ◌<◌, ◌≤◌, Bool, true, false, ◌⊎◌, List, length, take, sym, refl, ap, ◌∙◌, inl, inr, ⊎_elim, arith}
 use Rattle.std.proofs.lemmas.List.{take_all}
 use Rattle.std.proofs.lemmas.Bool.{cond-true, cond-false, cond_both, cases_lt}
-use Rattle.text.specs.declared.fault.FieldPlace.{FieldPlace}
 use Rattle.text.specs.Fields.{longest_within, longest}
 
 module _ (test : List ℕ → Bool) (xs : List ℕ) where
@@ -54,8 +53,3 @@ module _ (test : List ℕ → Bool) (xs : List ℕ) where
   pub whole_passes : 0 < longest test xs → length xs ≤ longest test xs → test xs ≡ true
   whole_passes some all =
       ⊎_elim (λ z. absurd (omega (arith, z))) (λ t. ap test (sym (take_all (longest test xs) xs all)) ∙ t) longest_passes
-
--- a field of which the check finds no place where it is at fault is lawful
-pub checked : (lawful : Bool) (r : Result (Unit {0}) FieldPlace) (at : FieldPlace) → r ≡ cond lawful (Ok tt) (Err at) → r ≡ Ok tt → lawful ≡ true
-checked true r at e ok = refl
-checked false r at e ok = absurd (cc)

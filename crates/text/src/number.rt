@@ -5,8 +5,9 @@ use crate::fault::FieldFault;
 use crate::lawful::check_lawful;
 use std::str;
 
-// The number that field `index` of a line writes: 0, or one to seven digits that do not start with 0. A struct of a field and
-// its index would be made at each call and taken apart in it: a number of a ladder's name is asked for here too.
+// The number that field `index` of a line writes: 0, or one to seven digits that do not start with 0. A field and its
+// index are no struct: what is cut is bytes, of which words and names are read without a number, so a struct would be taken
+// apart there.
 pub fn number(field: &[u8], index: usize) -> Result<u32, FieldFault>
     ensures { result ≡ number_read field.now index }
 {
@@ -17,7 +18,8 @@ pub fn number(field: &[u8], index: usize) -> Result<u32, FieldFault>
 }
 
 // The number that a word writes, if it does: 0, or one to ten digits that do not start with 0. No place is told where it
-// does not.
+// does not. One function for this and for a number of seven digits would be generic over the type that the digits are read
+// into, and over what tells that they are none.
 pub fn long_number(word: &[u8]) -> Option<u64>
     ensures { result ≡ long_number_read word.now }
 {

@@ -3,11 +3,12 @@ use Rattle.std.proofs.Common.{◌≡◌, ℕ, ◌-◌, ◌^◌, ◌<◌, ◌≤�
 use Rattle.std.proofs.lemmas.List.{append_assoc, get_or_push, length_push}
 use Rattle.std.proofs.lemmas.Bool.{cond-true, cond-false, eq-eqb, ne_eqb}
 use Rattle.model.specs.Mdp.{Row, Each}
+use Rattle.model.proofs.Lists.{each_map, each_append}
 use Rattle.std.specs.List.{onto_first}
 use Rattle.text.specs.Cuts.{Line, cut, fields, each_fields, lines, parted, spelled}
 use Rattle.text.specs.Contents.{State, Content}
 use Rattle.text.specs.Texts.{end_line, row_lines, choices_lines, states_lines, content_lines, text_of, Within}
-use Rattle.text_laws.proofs.States.{each_map, each_append, LawfulState, lawful_states, Small, small_rows}
+use Rattle.text_laws.proofs.States.{LawfulState, lawful_states, Small, small_rows}
 use Rattle.text_laws.proofs.CompleteFields.{Visible, visible_decimal, visible_labels}
 
 -- the bytes do not contain this one

@@ -13,9 +13,11 @@ use Rattle.text.specs.Questions.{number, states_given, denominator_given, count}
 use Rattle.text.specs.Refusals.{lines_refusal}
 use Rattle.text_laws.proofs.States.{LawfulState, lawful_states, Small}
 use Rattle.text_laws.proofs.CompleteFields.{amount_decimal, lawful_text, between_from}
-use Rattle.text_laws.proofs.CompleteFits.{Fits, Passes, passes_more}
+use Rattle.text_laws.proofs.Fits.{Fits}
+use Rattle.text_laws.proofs.CompleteFits.{Passes, passes_more}
 use Rattle.text_laws.proofs.CompletePlaces.{Room, room_more, Open, open_row, open_more, Ready, Ended, ready, row_ended}
 use Rattle.text.proofs.Digits.{numeral_decimal}
+use Rattle.text.proofs.Joining.{branches_append}
 
 -- the lines pass at the end of each row that leaves so much to come
 abbrev Next : ℕ → ℕ → ℕ → ℕ → ℕ → List Line → Type 0
@@ -116,12 +118,6 @@ header_fits n d some_state few_states some_unit few_units =
       branches = refl;
       complete = refl;
     }
-
--- two lists of rows have as many branches as both
-branches_append : (rs qs : List Row) → length (all_branches (rs ++ qs)) ≡ length (all_branches rs) + length (all_branches qs)
-branches_append [] qs = omega arith
-branches_append (r ∷ rs) qs =
-    omega (arith, length-append r (all_branches (rs ++ qs)), length-append r (all_branches rs), branches_append rs qs)
 
 module _ (n d : ℕ) (few_states : n ≤ 512) (some_unit : 1 ≤ d) (few_units : d ≤ 1000000) where
   -- the branches of a lawful row pass

@@ -9,6 +9,7 @@ pub mod Sound
 pub mod Complete
 pub mod CompleteCuts
 pub mod CompleteFields
+pub mod Fits
 pub mod CompleteFits
 pub mod CompletePlaces
 pub mod CompleteTold

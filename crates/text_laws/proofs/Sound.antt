@@ -1,6 +1,7 @@
 -- A text that is not refused describes the content that its lines tell.
 use Rattle.std.proofs.Common.{◌≡◌, ℕ, ◌+◌, ◌-◌, ◌≤◌, true, false, eqb, leb, List, [], ◌∷◌, ◌++◌, length, get_or, Some, None, sym, refl, ap, ◌∙◌, subst, ap₂, arith, lit<}
 use Rattle.std.proofs.lemmas.Bool.{both_ways, eqb-true, leb-true}
+use Rattle.std.proofs.lemmas.Option.{none-some}
 use Rattle.model.specs.Mdp.{Each, Lawful}
 use Rattle.text.specs.declared.word.Word.{Word}
 use Rattle.text.specs.declared.word.Word.TheVariants as word
@@ -12,7 +13,7 @@ use Rattle.text.specs.Questions.{word, number}
 use Rattle.text.specs.Refusals.{lines_refusal, refusal}
 use Rattle.text_laws.proofs.Nest.{Nested, nest_line, nest, content_of}
 use Rattle.text_laws.proofs.States.{LawfulState, lawful_content}
-use Rattle.text_laws.proofs.SoundAsks.{some_none, ask_next_none, or_next_none, passes}
+use Rattle.text_laws.proofs.SoundAsks.{ask_next_none, or_next_none, passes}
 use Rattle.text_laws.proofs.SoundCuts.{spelled_lines}
 use Rattle.text_laws.proofs.SoundLines.{some_word, IsHeader, is_header}
 use Rattle.text_laws.proofs.SoundRest.{Rest, count_more, rest}
@@ -43,7 +44,7 @@ first_word word.End h = absurd (both_ways false refl h)
 
 -- lines that no question refuses are the lines of the content that they tell, and that is within the limits
 pub sound : (ls : List Line) → lines_refusal [] 1 ls ≡ None → Told ls (content_of ls)
-sound [] f = absurd (some_none _ f)
+sound [] f = absurd (none-some _ (sym f))
 sound (l ∷ ls) f =
     let p = passes [] 1 l ls f in
     let s = some_word (word.Mdp ∷ []) (word l) p.0.word in

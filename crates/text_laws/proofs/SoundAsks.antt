@@ -1,23 +1,17 @@
 -- What a line has passed where no question refuses it.
-use Rattle.std.proofs.Common.{◌≡◌, ℕ, ◌+◌, Bool, true, false, List, ◌∷◌, Some, None, Option, refl, arith}
+use Rattle.std.proofs.Common.{◌≡◌, ℕ, ◌+◌, Bool, true, List, ◌∷◌, Some, None, Option, sym, refl}
+use Rattle.std.proofs.lemmas.Option.{none-some}
 use Rattle.text.specs.declared.fault.LineFault.{LineFault}
 use Rattle.text.specs.Cuts.{Line}
-use Rattle.text.specs.Questions.{word_fits, fields_fit, number_fits, range_fits, labels_fit, order_fits, sum_fits, states_left, choices_left, branches_left, states_there}
+use Rattle.text.specs.Questions.{states_there}
+use Rattle.text_laws.proofs.Fits.{Fits}
 use Rattle.text.specs.Refusals.{ask, or_next, numbered, line_fault, line_refusal, lines_refusal}
-
--- something is not nothing
-pub some_none : {A : Type 0} (x : A) → Some x ≡ None → ⊥
-some_none x e = let z : ◌≡◌ {A = ℕ} 0 1 = cc in omega arith
-
--- a question that gives no fault is answered by yes
-pub ask_none : {F : Type 0} (answer : Bool) (fault : F) → ask answer fault ≡ None → answer ≡ true
-ask_none true fault e = refl
-ask_none false fault e = absurd (some_none fault e)
+use Rattle.text.proofs.Asking.{ask_none}
 
 -- where two have no fault in turn, neither has one
 pub or_next_none : {F : Type 0} (x y : Option F) → or_next x y ≡ None → (x ≡ None) × (y ≡ None)
 or_next_none None y e = (refl, e)
-or_next_none (Some fault) y e = absurd (some_none fault e)
+or_next_none (Some fault) y e = absurd (none-some fault (sym e))
 
 -- a question and what comes after it
 pub ask_next_none : {F : Type 0} (answer : Bool) (fault : F) (y : Option F) → or_next (ask answer fault) y ≡ None → (answer ≡ true) × (y ≡ None)
@@ -26,25 +20,10 @@ ask_next_none answer fault y e = let p = or_next_none (ask answer fault) y e in 
 -- a number is given to faults alone
 pub numbered_none : (n : ℕ) (f : Option LineFault) → numbered n f ≡ None → f ≡ None
 numbered_none n None e = refl
-numbered_none n (Some f) e = absurd (some_none _ e)
-
--- a line has passed all questions that are asked of it after the lines before, the newest first
-pub record Passes (before : List Line) (line : Line) : Type 0 where
-  pub word : word_fits before line ≡ true
-  pub arity : fields_fit line ≡ true
-  pub number_1 : number_fits 1 line ≡ true
-  pub number_2 : number_fits 2 line ≡ true
-  pub range : range_fits before line ≡ true
-  pub labels : labels_fit line ≡ true
-  pub order : order_fits before line ≡ true
-  pub sum : sum_fits before line ≡ true
-  pub states : states_left before line ≡ true
-  pub choices : choices_left before line ≡ true
-  pub branches : branches_left before line ≡ true
-  pub all_there : states_there before line ≡ true
+numbered_none n (Some f) e = absurd (none-some _ (sym e))
 
 -- a line with no fault has passed
-passes_line : (before : List Line) (line : Line) → line_fault before line ≡ None → states_there before line ≡ true → Passes before line
+passes_line : (before : List Line) (line : Line) → line_fault before line ≡ None → states_there before line ≡ true → Fits before line
 passes_line before line e there =
     let a = ask_next_none _ _ _ e in
     let b = ask_next_none _ _ _ a.1 in
@@ -59,9 +38,9 @@ passes_line before line e there =
     let l = ask_next_none _ _ _ k.1 in
     record {
       word = a.0;
-      arity = b.0;
-      number_1 = c.0;
-      number_2 = d.0;
+      fields = b.0;
+      first_number = c.0;
+      second_number = d.0;
       range = f.0;
       labels = g.0;
       order = h.0;
@@ -69,11 +48,11 @@ passes_line before line e there =
       states = j.0;
       choices = k.0;
       branches = l.0;
-      all_there = there;
+      complete = there;
     }
 
 -- lines that are not refused: the first has passed, and those after it are not refused
-pub passes : (before : List Line) (n : ℕ) (l : Line) (ls : List Line) → lines_refusal before n (l ∷ ls) ≡ None → Passes before l × (lines_refusal (l ∷ before) (n + 1) ls ≡ None)
+pub passes : (before : List Line) (n : ℕ) (l : Line) (ls : List Line) → lines_refusal before n (l ∷ ls) ≡ None → Fits before l × (lines_refusal (l ∷ before) (n + 1) ls ≡ None)
 passes before n l ls e =
     let p = or_next_none (line_refusal before n l) _ e in
     let q = or_next_none (numbered n (line_fault before l)) _ p.0 in

@@ -1,13 +1,13 @@
 -- Lawful fields are what is written of what they say: words, numbers and labels.
 use Rattle.std.proofs.Common.{◌≡◌, ℕ, zero, suc, ◌+◌, ◌<◌, Bool, true, false, cond, ◌&&◌, ◌||◌, eqb, leb, ◌⊎◌, List, [], ◌∷◌, length, Some, Option, sym, refl, ap, ◌∙◌, ap₂, inl, inr, ⊎_elim, arith}
 use Rattle.std.proofs.lemmas.List.{nil_from_length}
+use Rattle.std.proofs.lemmas.Option.{none-some}
 use Rattle.std.proofs.lemmas.Bool.{and_parts, or_cases, both_ways, eqb-true, eqb-false, ne_eqb, le-leb, cond-true, cond-false, cases_Bool, and_from, or_from}
 use Rattle.text.specs.declared.word.Word.{Word}
 use Rattle.text.specs.declared.word.Word.TheVariants.{Mdp, State, Choice, Branch, End}
 use Rattle.text.specs.Fields.{between, ascending, dash, lawful_labels, among, letters_from, or_else, labels_text, flags_from, labels_of}
 use Rattle.text.specs.Words.{same, spelling, word_of}
 pub use Rattle.text.proofs.Ranges.{between_true}
-use Rattle.text_laws.proofs.SoundAsks.{some_none}
 
 -- bytes that the test calls the same are the same
 pub same_true : (xs ys : List ℕ) → same xs ys ≡ true → xs ≡ ys
@@ -27,7 +27,7 @@ some_of false v w rest e = inr e
 
 -- bytes that a word is found in are its spelling
 pub word_spelling : (f : List ℕ) (w : Word) → word_of f ≡ Some w → f ≡ spelling w
-word_spelling f w e = either Mdp _ (either State _ (either Choice _ (either Branch _ (either End _ (λ n. absurd (some_none w (sym n))))))) e
+word_spelling f w e = either Mdp _ (either State _ (either Choice _ (either Branch _ (either End _ (λ n. absurd (none-some w n)))))) e
   where
     either : (v : Word) (rest : Option Word) → (rest ≡ Some w → f ≡ spelling w) → cond (same f (spelling v)) (Some v) rest ≡ Some w → f ≡ spelling w
     either v rest more h = ⊎_elim (λ p. same_true f (spelling v) p.0 ∙ ap spelling p.1) more (some_of _ v w rest h)

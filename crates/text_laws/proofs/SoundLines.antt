@@ -9,7 +9,7 @@ use Rattle.text.specs.Words.{spelling, listed, one_of, arity}
 use Rattle.text.specs.Texts.{header_line, state_line, choice_line, branch_line, end_line}
 use Rattle.text.specs.Questions.{word, number, is, on, states_given, count, above_last, counted, fields_fit}
 use Rattle.text_laws.proofs.Nest.{branch_of}
-use Rattle.text_laws.proofs.SoundAsks.{Passes}
+use Rattle.text_laws.proofs.Fits.{Fits}
 use Rattle.text_laws.proofs.SoundFields.{between_true, word_spelling, labels_text_of}
 use Rattle.text.proofs.Digits.{decimal_amount}
 
@@ -48,12 +48,12 @@ fields_of : (l : Line) (w : Word) → word l ≡ Some w → fields_fit l ≡ tru
 fields_of l w e t = eqb-true (length l) (arity w) (ap (λ o. counted o (length l)) (sym e) ∙ t)
 
 -- a line of a word and two numbers is written from them
-two_numbers : (before : List Line) (l : Line) (w : Word) → word l ≡ Some w → listed w (Mdp ∷ Branch ∷ []) ≡ true → arity w ≡ 3 → Passes before l → l ≡ spelling w ∷ decimal (number 1 l) ∷ decimal (number 2 l) ∷ []
+two_numbers : (before : List Line) (l : Line) (w : Word) → word l ≡ Some w → listed w (Mdp ∷ Branch ∷ []) ≡ true → arity w ≡ 3 → Fits before l → l ≡ spelling w ∷ decimal (number 1 l) ∷ decimal (number 2 l) ∷ []
 two_numbers before l w e h three p =
     let f0 = word_spelling (field 0 l) w e in
-    let f1 = decimal_amount 7 (field 1 l) (omega arith) (on_true (Mdp ∷ Branch ∷ []) l _ w e h p.number_1) in
-    let f2 = decimal_amount 7 (field 2 l) (omega arith) (on_true (Mdp ∷ Branch ∷ []) l _ w e h p.number_2) in
-    let f = three_fields l (fields_of l w e p.arity ∙ three) in
+    let f1 = decimal_amount 7 (field 1 l) (omega arith) (on_true (Mdp ∷ Branch ∷ []) l _ w e h p.first_number) in
+    let f2 = decimal_amount 7 (field 2 l) (omega arith) (on_true (Mdp ∷ Branch ∷ []) l _ w e h p.second_number) in
+    let f = three_fields l (fields_of l w e p.fields ∙ three) in
     cc
 
 -- the least target that the open row may go on with: one above the last
@@ -77,7 +77,7 @@ pub record IsHeader (l : Line) : Type 0 where
   pub denominator : (1 ≤ number 2 l) × (number 2 l ≤ 1000000)
 
 -- a header that has passed is one
-pub is_header : (before : List Line) (l : Line) → word l ≡ Some Mdp → Passes before l → IsHeader l
+pub is_header : (before : List Line) (l : Line) → word l ≡ Some Mdp → Fits before l → IsHeader l
 is_header before l e p =
     let r = and_parts (between 1 512 (number 1 l)) _ (on_true (Mdp ∷ []) l _ Mdp e refl (and_parts (on (Mdp ∷ []) l _) _ p.range).0) in
     record {
@@ -92,11 +92,11 @@ pub record IsState (before : List Line) (l : Line) : Type 0 where
   pub left : count State before < states_given before
 
 -- a state's line that has passed is one
-pub is_state : (before : List Line) (l : Line) → word l ≡ Some State → Passes before l → IsState before l
+pub is_state : (before : List Line) (l : Line) → word l ≡ Some State → Fits before l → IsState before l
 is_state before l e p =
     let f0 = word_spelling (field 0 l) State e in
     let f1 = labels_text_of (field 1 l) (on_true (State ∷ []) l _ State e refl p.labels) in
-    let f = two_fields l (fields_of l State e p.arity) in
+    let f = two_fields l (fields_of l State e p.fields) in
     record {
       line = cc;
       left = ltb-true _ _ (on_true (State ∷ []) l _ State e refl p.states);
@@ -108,9 +108,9 @@ pub record IsChoice (before : List Line) (l : Line) : Type 0 where
   pub few : count Choice before < 2048
 
 -- a choice's line that has passed is one
-pub is_choice : (before : List Line) (l : Line) → word l ≡ Some Choice → Passes before l → IsChoice before l
+pub is_choice : (before : List Line) (l : Line) → word l ≡ Some Choice → Fits before l → IsChoice before l
 is_choice before l e p = record {
-  line = one_field l (fields_of l Choice e p.arity) ∙ ap (λ f. f ∷ []) (word_spelling (field 0 l) Choice e);
+  line = one_field l (fields_of l Choice e p.fields) ∙ ap (λ f. f ∷ []) (word_spelling (field 0 l) Choice e);
   few = ltb-true _ _ (on_true (Choice ∷ []) l _ Choice e refl p.choices);
 }
 
@@ -123,7 +123,7 @@ pub record IsBranch (before : List Line) (l : Line) : Type 0 where
   pub few : count Branch before < 4096
 
 -- a branch's line that has passed is one
-pub is_branch : (before : List Line) (l : Line) → word l ≡ Some Branch → Passes before l → IsBranch before l
+pub is_branch : (before : List Line) (l : Line) → word l ≡ Some Branch → Fits before l → IsBranch before l
 is_branch before l e p =
     let r = and_parts (ltb (number 1 l) (states_given before)) _ (on_true (Branch ∷ []) l _ Branch e refl (and_parts (on (Mdp ∷ []) l _) _ p.range).1) in
     record {
@@ -140,8 +140,8 @@ pub record IsEnd (before : List Line) (l : Line) : Type 0 where
   pub all : count State before ≡ states_given before
 
 -- an end that has passed is one
-pub is_end : (before : List Line) (l : Line) → word l ≡ Some End → Passes before l → IsEnd before l
+pub is_end : (before : List Line) (l : Line) → word l ≡ Some End → Fits before l → IsEnd before l
 is_end before l e p = record {
-  line = one_field l (fields_of l End e p.arity) ∙ ap (λ f. f ∷ []) (word_spelling (field 0 l) End e);
-  all = eqb-true _ _ (on_true (End ∷ []) l _ End e refl p.all_there);
+  line = one_field l (fields_of l End e p.fields) ∙ ap (λ f. f ∷ []) (word_spelling (field 0 l) End e);
+  all = eqb-true _ _ (on_true (End ∷ []) l _ End e refl p.complete);
 }

@@ -10,9 +10,12 @@ use Rattle.text.specs.Contents.{all_choices, all_branches}
 use Rattle.text.specs.Texts.{end_line, row_lines, choices_lines, states_lines}
 use Rattle.text.specs.Questions.{word, number, states_given, denominator_given, count, row_sum, closed}
 use Rattle.text.specs.Refusals.{lines_refusal}
+use Rattle.text.proofs.Asking.{ask_none}
+use Rattle.text.proofs.Joining.{branches_append}
 use Rattle.text_laws.proofs.Nest.{Nested, nest_line, nest, branch_of}
 use Rattle.text_laws.proofs.States.{LawfulState}
-use Rattle.text_laws.proofs.SoundAsks.{Passes, ask_none, passes}
+use Rattle.text_laws.proofs.Fits.{Fits}
+use Rattle.text_laws.proofs.SoundAsks.{passes}
 use Rattle.text_laws.proofs.SoundFields.{length_flags}
 use Rattle.text_laws.proofs.SoundLines.{some_word, on_true, lowest, is_state, is_choice, is_branch, is_end}
 
@@ -49,7 +52,7 @@ pub record After (w : Word) (l : Line) (before : List Line) (v : Word) (k : Line
   pub last : word l ≡ Some w
   pub this : word k ≡ Some v
   pub follows : listed v (followers (Some w)) ≡ true
-  pub passed : Passes (l ∷ before) k
+  pub passed : Fits (l ∷ before) k
 
 -- how a count goes on with one line more
 pub count_more : (w v : Word) (k : Line) (before : List Line) → word k ≡ Some v → count w (k ∷ before) ≡ cond (listed v (w ∷ [])) (count w before + 1) (count w before)
@@ -62,15 +65,6 @@ row_sum_more v k before e = ap (λ o. cond (one_of (word.Branch ∷ []) o) (numb
 -- how the least target goes on
 pub lowest_more : (v : Word) (k : Line) (before : List Line) → word k ≡ Some v → lowest (k ∷ before) ≡ cond (listed v (word.Branch ∷ [])) (number 1 k + 1) 0
 lowest_more v k before e = ap (λ o. cond (one_of (word.Branch ∷ []) o) (number 1 k + 1) 0) e
-
--- the branches of two lists of rows
-pub all_branches_append : (rs ts : List Row) → length (all_branches (rs ++ ts)) ≡ length (all_branches rs) + length (all_branches ts)
-all_branches_append [] ts = omega arith
-all_branches_append (r ∷ rs) ts =
-    let more = all_branches_append rs ts in
-    let a = length-append r (all_branches (rs ++ ts)) in
-    let b = length-append r (all_branches rs) in
-    omega arith
 
 -- what cannot follow, does not
 never : {A : Type 0} (t : Bool) → t ≡ true → t ≡ false → A
@@ -143,7 +137,7 @@ state_rest w l before k ks n a r =
     let choices = count_more word.Choice word.State k (l ∷ before) a.this in
     let branches = count_more word.Branch word.State k (l ∷ before) a.this in
     let more_choices = length-append n.rows (all_choices n.states) in
-    let more_branches = all_branches_append n.rows (all_choices n.states) in
+    let more_branches = branches_append n.rows (all_choices n.states) in
     record {
       told = ap₂ (λ x xs. x ∷ xs) i.line (r.told ∙ ap (λ row. row_lines row ++ (choices_lines n.rows ++ (states_lines n.states ++ (end_line ∷ [])))) r.row_fits ∙ sym (append_assoc (choices_lines n.rows) (states_lines n.states) (end_line ∷ [])));
       all_states = omega (arith, r.all_states);

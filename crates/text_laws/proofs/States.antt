@@ -1,37 +1,17 @@
 -- What the limits say of each state of a content, and of each branch.
-use Rattle.std.proofs.Common.{◌≡◌, ℕ, zero, suc, ◌+◌, ◌^◌, ◌<◌, ◌≤◌, List, [], ◌∷◌, ◌++◌, length, get_or, sym, ap, subst, ⊎_elim, arith, length-append}
+use Rattle.std.proofs.Common.{◌≡◌, ℕ, zero, suc, ◌+◌, ◌^◌, ◌<◌, ◌≤◌, List, [], ◌∷◌, length, get_or, sym, ap, subst, ⊎_elim, arith, length-append}
 use Rattle.std.proofs.lemmas.List.{get_or_past}
 use Rattle.std.proofs.lemmas.Bool.{cases_lt}
 use Rattle.model.specs.declared.branch.Branch.{Branch}
 use Rattle.model.specs.Mdp.{Row, Each, LawfulRow, Lawful, Ascends, total}
+use Rattle.model.proofs.Lists.{each_at, each_from_get_or, each_map}
 use Rattle.text.specs.Contents.{State, Content, no_state, model_of, all_choices}
-
--- what holds at each place holds of each element
-each_from_get_or : {A : Type 0} (P : A → Type 0) (xs : List A) (d : A) → ((i : ℕ) → i < length xs → P (get_or xs i d)) → Each P xs
-each_from_get_or P [] d h = tt
-each_from_get_or P (x ∷ xs) d h = (h 0 (omega arith), each_from_get_or P xs d (λ i l. h (suc i) (omega arith)))
-
--- what holds of each element, and gives more of it, gives more of each
-pub each_map : {A : Type 0} (P Q : A → Type 0) → ((x : A) → P x → Q x) → (xs : List A) → Each P xs → Each Q xs
-each_map P Q f [] h = tt
-each_map P Q f (x ∷ xs) h = (f x h.0, each_map P Q f xs h.1)
-
--- what holds of each element of two lists holds of each of both
-pub each_append : {A : Type 0} (P : A → Type 0) (xs ys : List A) → Each P xs → Each P ys → Each P (xs ++ ys)
-each_append P [] ys h k = k
-each_append P (x ∷ xs) ys h k = (h.0, each_append P xs ys h.1 k)
 
 -- a state of a model with n states and the denominator d
 pub record LawfulState (n d : ℕ) (s : State) : Type 0 where
   pub labels : length s.labels ≡ 16
   pub some_choice : 1 ≤ length s.choices
   pub rows : Each (LawfulRow n d) s.choices
-
--- what holds of each element holds at each place
-each_at : {A : Type 0} (P : A → Type 0) (xs : List A) (i : ℕ) (d : A) → Each P xs → i < length xs → P (get_or xs i d)
-each_at P [] i d h l = absurd (omega arith)
-each_at P (x ∷ xs) zero d h l = h.0
-each_at P (x ∷ xs) (suc i) d h l = each_at P xs i d h.1 (omega arith)
 
 -- a state has no more choices than all states together
 choices_of_one : (ss : List State) (s : ℕ) → length (get_or ss s no_state).choices ≤ length (all_choices ss)

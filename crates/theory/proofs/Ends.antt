@@ -3,6 +3,7 @@ use Rattle.std.proofs.Common.{◌≡◌, ℕ, zero, suc, ◌+◌, ◌-◌, ◌*�
 use Rattle.std.proofs.lemmas.Bool.Decides.{nat_tests}
 use native.Mathlib.Nat.{pow-succ', pow-zero, div-eq_of_lt-le}
 use Rattle.model.specs.Mdp.{Mdp, Row, Lawful, LawfulRow, Each}
+use Rattle.model.proofs.Lists.{each_map}
 use Rattle.theory.specs.Adversaries.{Adversary, Allowed, chosen}
 use Rattle.theory.specs.Tallies.{tally_after, tally}
 use Rattle.theory.specs.Rounds.{most, most_of, mixed, value, rounds}
@@ -167,8 +168,7 @@ module _ (prefer : ℕ → ℕ → Bool) (keeps : KeepsClose prefer) where
     -- so for each row
     pub each_close : (c : ℕ) (u v : ℕ → ℕ) (rs : List Row) → Each (LawfulRow m.states m.denominator) rs → ((t : ℕ) → t < m.states → Close c (u t) (v t)) →
         Each (λ r. Close (suc c) (mixed mix_down m u r) (mixed mix_up m v r)) rs
-    each_close c u v [] e h = tt
-    each_close c u v (r ∷ rs) e h = (row_close c u v r e.0 h, each_close c u v rs e.1 h)
+    each_close c u v rs e h = each_map (LawfulRow m.states m.denominator) (λ r. Close (suc c) (mixed mix_down m u r) (mixed mix_up m v r)) (λ r lr. row_close c u v r lr h) rs e
 
     -- after k rounds the two are at most k apart
     pub rounds_close : (v : ℕ → ℕ) (k s : ℕ) → s < m.states → Close k (rounds prefer mix_down k m v s) (rounds prefer mix_up k m v s)

@@ -1,4 +1,3 @@
-pub mod Lists
 pub mod Rounds
 pub mod RuleLaws
 pub mod Tallies

@@ -4,10 +4,10 @@ use Rattle.std.proofs.lemmas.List.{length-map, get_or-map}
 use Rattle.std.proofs.lemmas.Bool.{both_ways, cases_Bool}
 use Rattle.model.specs.Mdp.{Mdp, Row, Each, Lawful, LawfulRow, Ascends, total, row}
 use Rattle.model.specs.declared.branch.Branch.{Branch}
+use Rattle.model.proofs.Lists.{each_at, each_append}
 use Rattle.theory.specs.Adversaries.{AnAdversaryExists, Adversary, Allowed, chosen}
 use Rattle.theory.specs.Rules.{LawfulMix, RuleLaws, total_weight, valued}
 use Rattle.theory.specs.Rounds.{Optimum, most, most_of, mixed, value, round, rounds}
-use Rattle.theory.proofs.Lists.{each_at}
 
 -- every target of a row lies below n
 abbrev pub Within : ℕ → Row → Type 0
@@ -22,11 +22,6 @@ ascends_within n low (b ∷ bs) a = (a.1, ascends_within n (b.target + 1) bs a.3
 pub ascends_weights : (n low : ℕ) (r : Row) → Ascends n low r → Each (λ (b : Branch). 1 ≤ b.weight) r
 ascends_weights n low [] a = tt
 ascends_weights n low (b ∷ bs) a = (a.2, ascends_weights n (b.target + 1) bs a.3)
-
--- what holds of each element of two lists holds of each of both
-pub each_append : {A : Type 0} (P : A → Type 0) (xs ys : List A) → Each P xs → Each P ys → Each P (xs ++ ys)
-each_append P [] ys x y = y
-each_append P (z ∷ zs) ys x y = (x.0, each_append P zs ys x.1 y)
 
 -- the row that an allowed adversary takes is lawful
 pub row_lawful : (m : Mdp) → Lawful m → (s c : ℕ) → c < length (m.choices s) → LawfulRow m.states m.denominator (row m s c)

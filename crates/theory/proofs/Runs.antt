@@ -4,9 +4,10 @@ use Rattle.std.proofs.lemmas.Bool.{cases_Bool}
 use mathlib.Core.Path.{fun_ext}
 use Rattle.model.specs.Mdp.{Mdp, Row, Each, Lawful, Ascends}
 use Rattle.model.specs.declared.branch.Branch.{Branch}
+use Rattle.model.proofs.Lists.{each_append}
 use Rattle.theory.specs.Adversaries.{Adversary, Allowed, chosen}
 use Rattle.theory.specs.Tallies.{Run, step, gather, runs, weight_to, Follows, same_path, count, IsPath, RunsCorrect}
-use Rattle.theory.proofs.Rounds.{Within, ascends_within, row_lawful, each_append}
+use Rattle.theory.proofs.Rounds.{Within, ascends_within, row_lawful}
 use Rattle.theory.proofs.Tallies.{weigh_all}
 
 -- the sum of f over the targets of a row

@@ -8,14 +8,14 @@ pub(crate) const FILES: &[&str] = &[
 ];
 
 // Command lines that print a ladder.
-pub(crate) const LADDERS: &[&str] = &[
+const LADDERS: &[&str] = &[
     "kavzhubo show ladder:2:4:3",
     "kavzhubo write ladder:2:4:3",
     "kavzhubo write ladder:1:1:1",
 ];
 
 // Command lines whose file is refused.
-pub(crate) const REFUSED: &[&str] = &[
+const REFUSED: &[&str] = &[
     "kavzhubo show unended.mdp",
     "kavzhubo show word.mdp",
     "kavzhubo show long.mdp",
@@ -33,14 +33,14 @@ pub(crate) const REFUSED: &[&str] = &[
 ];
 
 // Command lines whose ladder is refused.
-pub(crate) const REFUSED_LADDERS: &[&str] = &[
+const REFUSED_LADDERS: &[&str] = &[
     "kavzhubo show ladder:0:4:3",
     "kavzhubo show ladder:2:0:3",
     "kavzhubo write ladder:2:4:5",
 ];
 
 // Command lines that are wrong.
-pub(crate) const WRONG: &[&str] = &[
+const WRONG: &[&str] = &[
     "kavzhubo",
     "kavzhubo chart relearn.mdp",
     "kavzhubo show",
@@ -54,7 +54,7 @@ pub(crate) const WRONG: &[&str] = &[
 
 // Command lines that run rounds. In retry.mdp state 0 tries again with 1 part out of 4 or goes to 1, or it takes 1 or 2
 // alike; in thirds.mdp it waits with 2 parts out of 3 and else goes to 1.
-pub(crate) const ROUNDS: &[&str] = &[
+const ROUNDS: &[&str] = &[
     "kavzhubo rounds retry.mdp down greater 0 0,1000000000,0",
     "kavzhubo rounds retry.mdp down greater 1 0,1000000000,0",
     "kavzhubo rounds retry.mdp down greater 2 0,1000000000,0",
@@ -80,7 +80,7 @@ pub(crate) const ROUNDS: &[&str] = &[
 
 // Command lines whose rounds are refused, or whose model is: with too few and too many values, with a round too many, with
 // a value over the whole, and with several faults.
-pub(crate) const REFUSED_ROUNDS: &[&str] = &[
+const REFUSED_ROUNDS: &[&str] = &[
     "kavzhubo rounds retry.mdp down greater 1 0,1000000000",
     "kavzhubo rounds retry.mdp marks greater 1 0,1,0,1",
     "kavzhubo rounds thirds.mdp down greater 100001 0,1000000000",
@@ -94,7 +94,7 @@ pub(crate) const REFUSED_ROUNDS: &[&str] = &[
 ];
 
 // Command lines of rounds that are wrong.
-pub(crate) const WRONG_ROUNDS: &[&str] = &[
+const WRONG_ROUNDS: &[&str] = &[
     "kavzhubo rounds",
     "kavzhubo rounds ladder:2:4:3",
     "kavzhubo rounds ladder:2:4:3 down greater 1",
@@ -112,7 +112,7 @@ pub(crate) const WRONG_ROUNDS: &[&str] = &[
 ];
 
 // Command lines that read a formula.
-pub(crate) const FORMULAS: &[&str] = &[
+const FORMULAS: &[&str] = &[
     "kavzhubo formula true",
     "kavzhubo formula '(!p&P<7[Xc])'",
     "kavzhubo formula 'P>0[aU<=10000b]'",
@@ -120,7 +120,7 @@ pub(crate) const FORMULAS: &[&str] = &[
 ];
 
 // Command lines whose formula is refused, in the order of the numbers.
-pub(crate) const REFUSED_FORMULAS: &[&str] = &[
+const REFUSED_FORMULAS: &[&str] = &[
     "kavzhubo formula ''",
     "kavzhubo formula 'P>=5[a'",
     "kavzhubo formula 'P>05[Xa]'",
@@ -133,10 +133,10 @@ pub(crate) const REFUSED_FORMULAS: &[&str] = &[
 ];
 
 // Command lines of formulas that are wrong.
-pub(crate) const WRONG_FORMULAS: &[&str] = &["kavzhubo formula", "kavzhubo formula a b"];
+const WRONG_FORMULAS: &[&str] = &["kavzhubo formula", "kavzhubo formula a b"];
 
 // Command lines that make calls on a trial: every call and refused ones between them, states that are held, and a ladder.
-pub(crate) const TRIALS: &[&str] = &[
+const TRIALS: &[&str] = &[
     "kavzhubo trial relearn.mdp relearn.calls",
     "kavzhubo trial retry.mdp retry.calls",
     "kavzhubo trial retry.mdp hold.calls",
@@ -144,13 +144,13 @@ pub(crate) const TRIALS: &[&str] = &[
 ];
 
 // Command lines of trials whose model is refused.
-pub(crate) const REFUSED_TRIALS: &[&str] = &[
+const REFUSED_TRIALS: &[&str] = &[
     "kavzhubo trial sum.mdp retry.calls",
     "kavzhubo trial ladder:0:4:3 nowhere.calls",
 ];
 
 // Command lines of trials that are wrong, by their words, a file that is not there, or a line of the calls.
-pub(crate) const WRONG_TRIALS: &[&str] = &[
+const WRONG_TRIALS: &[&str] = &[
     "kavzhubo trial",
     "kavzhubo trial retry.mdp",
     "kavzhubo trial retry.mdp retry.calls twice",
@@ -165,24 +165,50 @@ pub(crate) const WRONG_TRIALS: &[&str] = &[
 
 // Command lines that check lists of limits: one whose formulas are all judged, one with refused formulas, and one with a single
 // formula, whose progress is not told.
-pub(crate) const CHECKS: &[&str] = &[
+const CHECKS: &[&str] = &[
     "kavzhubo check relearn.mdp relearn.limits",
     "kavzhubo check retry.mdp retry.limits",
     "kavzhubo check ladder:2:4:3 ladder.limits",
 ];
 
 // Command lines that check a list on a model that is refused.
-pub(crate) const REFUSED_CHECKS: &[&str] = &[
+const REFUSED_CHECKS: &[&str] = &[
     "kavzhubo check sum.mdp retry.limits",
     "kavzhubo check ladder:0:4:3 nowhere.limits",
 ];
 
 // Command lines of lists of limits that are wrong, by their words or by a file that is not there.
-pub(crate) const WRONG_CHECKS: &[&str] = &[
+const WRONG_CHECKS: &[&str] = &[
     "kavzhubo check",
     "kavzhubo check retry.mdp",
     "kavzhubo check retry.mdp retry.limits twice",
     "kavzhubo check ladder:2:4 retry.limits",
     "kavzhubo check nowhere.mdp retry.limits",
     "kavzhubo check retry.mdp nowhere.limits",
+];
+
+// What the tour plays after the file, in this order: each heading, and the command lines under it.
+pub(crate) const SECTIONS: &[(&str, &[&str])] = &[
+    ("Ladders.", LADDERS),
+    ("Refused files, in the order of the numbers.", REFUSED),
+    ("Refused ladders.", REFUSED_LADDERS),
+    ("Wrong command lines, and paths of no file.", WRONG),
+    ("Rounds.", ROUNDS),
+    ("Refused rounds.", REFUSED_ROUNDS),
+    ("Wrong command lines of rounds.", WRONG_ROUNDS),
+    ("Formulas.", FORMULAS),
+    (
+        "Refused formulas, in the order of the numbers.",
+        REFUSED_FORMULAS,
+    ),
+    ("Wrong command lines of formulas.", WRONG_FORMULAS),
+    ("Trials.", TRIALS),
+    ("Trials of refused models.", REFUSED_TRIALS),
+    ("Wrong command lines of trials.", WRONG_TRIALS),
+    (
+        "Lists of limits. The program tells on standard error which formula comes next.",
+        CHECKS,
+    ),
+    ("Lists of limits on refused models.", REFUSED_CHECKS),
+    ("Wrong command lines of lists of limits.", WRONG_CHECKS),
 ];

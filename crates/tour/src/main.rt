@@ -4,11 +4,7 @@
 
 mod lines;
 
-use crate::lines::{
-    CHECKS, FILES, FORMULAS, LADDERS, REFUSED, REFUSED_CHECKS, REFUSED_FORMULAS, REFUSED_LADDERS,
-    REFUSED_ROUNDS, REFUSED_TRIALS, ROUNDS, TRIALS, WRONG, WRONG_CHECKS, WRONG_FORMULAS,
-    WRONG_ROUNDS, WRONG_TRIALS,
-};
+use crate::lines::{FILES, SECTIONS};
 use console::answer::{path, reply};
 use console::reply::Reply;
 use layers::hold::Hold;
@@ -30,7 +26,8 @@ fn words(heap: Global, line: &str) -> Result<Vec<String>, AllocError> {
         .try_collect(heap)
 }
 
-// The bytes of the file with this number that the words of a command line name, if they name one and that can be read.
+// The bytes of the file with this number that the words of a command line name, if they name one and that can be read. The program
+// has this and the lines that call it word for word: both stand above the console, which does no input, with no library between.
 fn file(rt: &HostRuntime, args: &[String], number: usize) -> Option<Vec<u8>> {
     path(args, number).and_then(|path| fs::read(rt, path).ok())
 }
@@ -132,28 +129,8 @@ fn main(rt: HostRuntime) -> io::Result<()> {
     play_all(&rt, "A file.", FILES)?;
     print_copy(&rt, "relearn.mdp")?;
     print_layers(&rt, "relearn.mdp")?;
-    play_all(&rt, "Ladders.", LADDERS)?;
-    play_all(&rt, "Refused files, in the order of the numbers.", REFUSED)?;
-    play_all(&rt, "Refused ladders.", REFUSED_LADDERS)?;
-    play_all(&rt, "Wrong command lines, and paths of no file.", WRONG)?;
-    play_all(&rt, "Rounds.", ROUNDS)?;
-    play_all(&rt, "Refused rounds.", REFUSED_ROUNDS)?;
-    play_all(&rt, "Wrong command lines of rounds.", WRONG_ROUNDS)?;
-    play_all(&rt, "Formulas.", FORMULAS)?;
-    play_all(
-        &rt,
-        "Refused formulas, in the order of the numbers.",
-        REFUSED_FORMULAS,
-    )?;
-    play_all(&rt, "Wrong command lines of formulas.", WRONG_FORMULAS)?;
-    play_all(&rt, "Trials.", TRIALS)?;
-    play_all(&rt, "Trials of refused models.", REFUSED_TRIALS)?;
-    play_all(&rt, "Wrong command lines of trials.", WRONG_TRIALS)?;
-    play_all(
-        &rt,
-        "Lists of limits. The program tells on standard error which formula comes next.",
-        CHECKS,
-    )?;
-    play_all(&rt, "Lists of limits on refused models.", REFUSED_CHECKS)?;
-    play_all(&rt, "Wrong command lines of lists of limits.", WRONG_CHECKS)
+    for (heading, lines) in SECTIONS {
+        play_all(&rt, heading, lines)?;
+    }
+    Ok(())
 }

@@ -1,8 +1,7 @@
 -- What judging leaves is what the definition says.
 use Rattle.std.proofs.Common.{◌≡◌, ℕ, ◌+◌, ◌-◌, ◌*◌, ◌≤◌, List, [], ◌++◌, length, take, drop, Ok, sym, refl, ap, ◌∙◌, subst, arith}
-use Rattle.std.proofs.Math.Seq.{take-append_seam, drop-append_seam}
-use Rattle.std.proofs.lemmas.List.{take_all}
 use Rattle.model.specs.Mdp.{Mdp, Lawful, over}
+use Rattle.model.proofs.Copies.{over_front, take_over, drop_over}
 use Rattle.theory.specs.Formulas.{Formula, truth, label, negation, conjunction, probability}
 use Rattle.grammar.proofs.Readings.{one_reading}
 use Rattle.records.specs.declared.record.Record.{Record}
@@ -13,20 +12,6 @@ use Rattle.formula.proofs.Limits.{limits}
 use Rattle.trial.specs.Judging.{Buffers, lent, Reads, Accepted, counted_each, row_of, rows_of}
 use Rattle.trial.specs.Evaluation.{row_at, HasRow, Chained}
 use Rattle.trial.proofs.Evaluation.{chained, own_row, own_there, rows_length, length_parts, counted_length}
-
--- a list that fits over the front of another
-module _ {A : Type 0} (xs under : List A) (fits : length xs ≤ length under) where
-  -- stands there whole, and the rest behind it
-  pub over_front : over xs under ≡ xs ++ drop (length xs) under
-  over_front = ap (λ ys. ys ++ drop (length xs) under) (take_all (length under) xs fits)
-
-  -- is taken from there again
-  pub take_over : take (length xs) (over xs under) ≡ xs
-  take_over = ap (take (length xs)) over_front ∙ take-append_seam xs (drop (length xs) under)
-
-  -- and has the rest behind it
-  pub drop_over : drop (length xs) (over xs under) ≡ drop (length xs) under
-  drop_over = ap (drop (length xs)) over_front ∙ drop-append_seam xs (drop (length xs) under)
 
 -- a formula has a part
 pub some_part : (f : Formula) → 1 ≤ size f
@@ -68,7 +53,7 @@ module _ (m : Mdp) (l : Lawful m) (text : List ℕ) (b : Buffers) (filled : List
 
   -- and are found there
   front : take n filled ≡ records 0 f
-  front = ap (take n) twice.written ∙ ap (λ k. take k (over (records 0 f) b.records)) (sym all_records) ∙ take_over (records 0 f) b.records (omega (arith, all_records, twice.number, twice.reads.within.room))
+  front = ap (take n) twice.written ∙ take_over (records 0 f) b.records (omega (arith, all_records, twice.number, twice.reads.within.room)) n (sym all_records)
 
   -- there is a last row among the rows of its parts
   pub last_there : (rows behind : List ℕ) → rows ≡ rows_of m (parts f) → HasRow m.states (rows ++ behind) (n - 1)
@@ -91,8 +76,8 @@ module _ (m : Mdp) (l : Lawful m) (text : List ℕ) (b : Buffers) (filled : List
     records_left =
         ap (λ d. d ++ drop n filled) (counts ∙ ap (counted_each m (parts f)) front)
         ∙ ap (λ d. counted_each m (parts f) (records 0 f) ++ d)
-        (ap (drop n) twice.written ∙ ap (λ k. drop k (over (records 0 f) b.records)) (sym all_records) ∙ drop_over (records 0 f) b.records (omega (arith, all_records, twice.number, twice.reads.within.room))
-        ∙ ap (λ k. drop k b.records) (all_records ∙ sym all_counted))
+        (ap (drop n) twice.written ∙ drop_over (records 0 f) b.records (omega (arith, all_records, twice.number, twice.reads.within.room)) n (sym all_records)
+        ∙ ap (λ k. drop k b.records) (sym all_counted))
         ∙ sym (over_front (counted_each m (parts f) (records 0 f)) b.records (omega (arith, all_counted, twice.number, twice.reads.within.room)))
 
     -- the rows fill so many bytes

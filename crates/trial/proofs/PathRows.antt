@@ -15,7 +15,7 @@ use Rattle.rules.specs.declared.rounding.Rounding.{Rounding}
 use Rattle.rules.specs.declared.parts.Parts.{Parts}
 use Rattle.rules.specs.Parts.{part_of, units_of, prefers_number, prefers_part, mix_rounded, in_parts}
 use Rattle.rules.specs.Values.{told}
-use Rattle.rules.specs.PartsLemmas.{part_same, numbers_lawful, parts_rounds}
+use Rattle.rules.specs.PartsLemmas.{part_same, numbers_lawful, parts_lawful, parts_rounds}
 use Rattle.formula.specs.Tokens.{meant}
 use Rattle.trial.specs.Aims.{preference_of, aim_for}
 use Rattle.trial.specs.Queries.{marked}
@@ -45,6 +45,13 @@ ends_units x r p e f m l set k s h z found =
     ∙ ap (λ (q : Preference). units_of (rounds (prefers_part q) (in_parts (mix_rounded r)) k m (start_part set) s)) f
     ∙ parts_rounds r p m l (start_part set) k s h
     ∙ rounds_same (prefers_number p) (mix_rounded r) (numbers_lawful r p) m l (λ t. units_of (start_part set t)) (start set) (λ t q. start_units set t) k s h
+
+-- so have ends that rounds make of a list that tells the start
+pub started_units : (r : Rounding) (p : Preference) (m : Mdp) → Lawful m → (set : ℕ → Bool) (ends : List Part) (d : Part) → ((s : ℕ) → s < m.states → get_or ends s d ≡ start_part set s) → (k s : ℕ) → s < m.states →
+    (z : Part) → z ≡ rounds (prefers_part p) (in_parts (mix_rounded r)) k m (told ends d) s → units_of z ≡ rounds (prefers_number p) (mix_rounded r) k m (start set) s
+started_units r p m l set ends d e k s h z found =
+    let rule : Parts = record { rounding = r; preference = p } in
+    ends_units rule r p refl refl m l set k s h z (started_rounds (prefers_part p) (in_parts (mix_rounded r)) (parts_lawful r p) m l set ends d e k s h z found)
 
 -- the aim that a comparison is decided by prefers as the comparison asks
 pub asked_for : (c : Comparison) → prefers_number (preference_of (aim_for c)) ≡ asked (meant c)

@@ -1,5 +1,5 @@
 -- The query that a trial keeps: its ends after more rounds, what they mean, and how the query is told by the fields.
-use Rattle.std.proofs.Common.{◌≡◌, ℕ, zero, suc, ◌+◌, ◌<◌, ◌≤◌, Bool, true, ltb, leb, List, get_or, Some, None, Ok, Option, Result, sym, refl, ap, ◌∙◌, subst, inl, inr, add-zero, add-suc, arith}
+use Rattle.std.proofs.Common.{◌≡◌, ℕ, zero, suc, ◌+◌, ◌<◌, ◌≤◌, Bool, true, ltb, leb, List, map, get_or, Some, None, Ok, Option, Result, sym, refl, ap, ◌∙◌, subst, inl, inr, add-zero, add-suc, arith}
 use Rattle.std.proofs.lemmas.Bool.{cond-true, cond-false, le-leb, lt-ltb, ltb-true, cases_Bool}
 use Rattle.model.specs.Mdp.{Mdp, Lawful}
 use Rattle.theory.specs.Rounds.{round, rounds}
@@ -10,10 +10,10 @@ use Rattle.theory.proofs.Near.{queries_correct}
 use Rattle.rules.specs.declared.part.Part.{Part}
 use Rattle.rules.specs.declared.preference.Preference.{Preference}
 use Rattle.rules.specs.declared.rounding.Rounding.{Rounding}
-use Rattle.rules.specs.declared.parts.Parts.{Parts}
 use Rattle.rules.specs.Parts.{part_of, units_of, prefers_number, prefers_part, mix_rounded, in_parts}
 use Rattle.rules.specs.PartsLemmas.{part_same, numbers_lawful, parts_rounds}
 use Rattle.rules.specs.Values.{told}
+use Rattle.rounds.specs.Ends.{lower_of, upper_of}
 use Rattle.records.specs.declared.comparison.Comparison.{Comparison}
 use Rattle.formula.specs.Tokens.{meant}
 use Rattle.trial.specs.declared.aim.Aim.{Aim}
@@ -31,14 +31,13 @@ pub rounds_add : {V : Type 0} (preferred : V → V → Bool) (mix : ℕ → List
 rounds_add preferred mix m v j zero = rw (add-zero j)
 rounds_add preferred mix m v j (suc k) = rw (add-suc j k) (ap (round preferred mix m) (rounds_add preferred mix m v j k))
 
--- an end of a query: the list holds it after j rounds, and after k more it holds that after j + k; the rounds are those of the same rule and model under other names
-pub end_more : (r : Rounding) (p : Preference) (x : Parts) → x.rounding ≡ r → x.preference ≡ p → (m m' : Mdp) → Lawful m → m' ≡ m → (v : ℕ → ℕ) (j k : ℕ) (old new : List Part) (d : Part) →
+-- an end of a query: the list holds it after j rounds, and after k more it holds that after j + k; the rounds are those of the same preference and model under other names
+pub end_more : (r : Rounding) (p p' : Preference) → p' ≡ p → (m m' : Mdp) → Lawful m → m' ≡ m → (v : ℕ → ℕ) (j k : ℕ) (old new : List Part) (d : Part) →
     ((s : ℕ) → s < m.states → units_of (get_or old s d) ≡ rounds (prefers_number p) (mix_rounded r) j m v s) →
-    ((s : ℕ) → s < m'.states → get_or new s d ≡ rounds (prefers_part x.preference) (in_parts (mix_rounded x.rounding)) k m' (told old d) s) →
+    ((s : ℕ) → s < m'.states → get_or new s d ≡ rounds (prefers_part p') (in_parts (mix_rounded r)) k m' (told old d) s) →
     (s : ℕ) → s < m.states → units_of (get_or new s d) ≡ rounds (prefers_number p) (mix_rounded r) (j + k) m v s
-end_more r p x a e m m' l f v j k old new d before after s h =
+end_more r p p' e m m' l f v j k old new d before after s h =
     ap units_of (after s (omega (arith, ap (λ (y : Mdp). y.states) f))
-    ∙ ap (λ (y : Rounding). rounds (prefers_part x.preference) (in_parts (mix_rounded y)) k m' (told old d) s) a
     ∙ ap (λ (y : Preference). rounds (prefers_part y) (in_parts (mix_rounded r)) k m' (told old d) s) e
     ∙ ap (λ (y : Mdp). rounds (prefers_part p) (in_parts (mix_rounded r)) k y (told old d) s) f)
     ∙ parts_rounds r p m l (told old d) k s h
@@ -80,8 +79,8 @@ ends_answered m o q e s h lo hi f g =
 pub ends_small : (m : Mdp) (flags : List Bool) (t : QueryState) (q : Query) → Keeps m flags t q → (s : ℕ) → s < m.states → (lower_end m q s ≤ whole) × (upper_end m q s ≤ whole)
 ends_small m flags t q keeps s h =
     let d = part_of 0 in
-    let lo = get_or t.lower.values s d in
-    let hi = get_or t.upper.values s d in
+    let lo = get_or (map lower_of t.ends.values) s d in
+    let hi = get_or (map upper_of t.ends.values) s d in
     (omega (arith, keeps.lower d s h, lo.within), omega (arith, keeps.upper d s h, hi.within))
 
 -- the ends that a trial answers for the query that it keeps, at a state that exists

@@ -17,9 +17,7 @@ impl QueryState {
             rounds: 0,
             left: PerState::of(until.left, 0, |byte| byte),
             right: PerState::of(until.right, 0, |byte| byte),
-            lower: start_ends(until.right),
-            upper: start_ends(until.right),
-            spare: start_ends(until.right),
+            ends: start_ends(until.right),
         }
     }
 }

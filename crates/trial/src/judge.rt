@@ -6,6 +6,7 @@ ghost use Rattle.theory.specs.Found.{JudgedRightly};
 ghost use Rattle.trial.specs.Judging.{counted_each, rows_of, lent, JudgeResult};
 ghost use Rattle.trial.specs.PathEnds.{Told, ends_of_last};
 ghost use Rattle.trial.specs.JudgedEnds.{records_of, EndsTold};
+ghost use Rattle.trial.specs.VerdictBytes.{verdict_number};
 ghost use Rattle.trial.specs.Evaluation.{row_at, HasRow, Needs, row_by, ends_by, Chained};
 
 use crate::path_ends::next_ends;
@@ -13,6 +14,7 @@ use crate::rows::{join_rows, label_row, negate_row, truth_row};
 use crate::threshold::Threshold;
 use crate::two_ends::Ends;
 use crate::until::Until;
+use crate::verdict::Verdict;
 use formula::reader::{read_formula, record_count};
 use model::source::Source;
 use records::fault::JudgeFault;
@@ -77,6 +79,8 @@ fn write_row_of<S: Source>(
     ensures row { row.new ≡ row_by (S.Source.model source.now) rows.now.bytes.now record.now }
     ensures ends { Told (S.Source.model source.now).states (ends_by record.now.kind (S.Source.model source.now) rows.now.bytes.now record.now) result }
 {
+    // The arms of a next and of an until with steps end alike: were their ends made in a match of their own, the other kinds
+    // would stand in both, and were they answered by what writes their row, that would have to promise them again.
     match record.kind {
         Kind::Truth => truth_row(row),
         Kind::Label => label_row(source, record.number as usize, row),
@@ -101,11 +105,12 @@ fn write_row_of<S: Source>(
     None
 }
 
-// How many bytes of a row are this one.
-fn count(row: &[u8], byte: u8) -> usize
-    ensures { result ≡ count_by (λ b. b == byte) row.now }
+// How many bytes of a row are this verdict's.
+fn count(row: &[u8], verdict: Verdict) -> usize
+    ensures { result ≡ count_by (λ b. b == verdict_number verdict) row.now }
 {
-    row.iter().filter(|other| **other == byte).count()
+    let number = verdict.number();
+    row.iter().filter(|byte| **byte == number).count()
 }
 
 // Writes the row of each record, in their order, sets its counts, and tells the ends of the last.
@@ -126,8 +131,8 @@ fn evaluate<S: Source>(source: &S, records: &mut [Record], scratch: &mut [u8]) -
             bytes: done,
         };
         ends = write_row_of(source, record, &rows, row);
-        record.yes = count(row, 1);
-        record.undecided = count(row, 2);
+        record.yes = count(row, Verdict::Yes);
+        record.undecided = count(row, Verdict::Undecided);
     }
     ends
 }

@@ -5,7 +5,8 @@ use std::array;
 
 // A value for each state that a source may have. It is an array of a fixed length, since nothing may want memory here: the
 // making of a trial cannot fail, and no call on one may fail for memory.
-// A list of bytes or a row is asked to have at most as many places where it meets these values.
+// A list of bytes or a row is asked to have at most as many places where it meets these values: its caller knows that of it by
+// the source's states, and a type of lists so short would be made at each of these calls.
 #[derive(Drop)]
 pub(crate) struct PerState<T> {
     pub(crate) values: [T; STATES],

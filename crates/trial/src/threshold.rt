@@ -5,6 +5,7 @@ ghost use Rattle.trial.specs.VerdictBytes.{read_verdict};
 
 use crate::verdict::Verdict;
 use records::comparison::Comparison;
+use rounds::interval::Interval;
 use rules::part::Part;
 
 // What a probability is asked: how it compares with a bound, in units.
@@ -27,23 +28,25 @@ impl Threshold {
         }
     }
 
-    // The end that fits less easily, and the other one. Here and below the two ends are two arguments, since no other function
-    // takes both: a pair of them would be made at the call and taken apart in the function.
-    fn ends_by(self, lower: u64, upper: u64) -> (u64, u64)
-        ensures first { result.0 ≡ harder (meant self.comparison) lower upper }
-        ensures second { result.1 ≡ easier (meant self.comparison) lower upper }
+    // The end that fits less easily, and the other one.
+    fn ends_by(self, ends: Interval) -> (Part, Part)
+        ensures first { result.0.units ≡ harder (meant self.comparison) ends.lower.units ends.upper.units }
+        ensures second { result.1.units ≡ easier (meant self.comparison) ends.lower.units ends.upper.units }
     {
         match self.comparison {
-            Comparison::Below | Comparison::AtMost => (upper, lower),
-            Comparison::Above | Comparison::AtLeast => (lower, upper),
+            Comparison::Below | Comparison::AtMost => (ends.upper, ends.lower),
+            Comparison::Above | Comparison::AtLeast => (ends.lower, ends.upper),
         }
     }
 
     // The verdict that is read off two ends: yes if the end that fits less easily fits, no if the other does not.
-    pub(crate) fn read_off(self, lower: Part, upper: Part) -> Verdict
-        ensures { result ≡ read_verdict (meant self.comparison) self.bound lower.units upper.units }
+    pub(crate) fn read_off(self, ends: Interval) -> Verdict
+        ensures { result ≡ read_verdict (meant self.comparison) self.bound ends.lower.units ends.upper.units }
     {
-        let (harder, easier) = self.ends_by(u64::from(lower.units()), u64::from(upper.units()));
-        Verdict::by(self.fits(harder), self.fits(easier))
+        let (harder, easier) = self.ends_by(ends);
+        Verdict::by(
+            self.fits(u64::from(harder.units())),
+            self.fits(u64::from(easier.units())),
+        )
     }
 }

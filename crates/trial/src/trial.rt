@@ -8,7 +8,7 @@ ghost use Rattle.trial.specs.Keeping.{standing, Kept};
 ghost use Rattle.trial.specs.Answers.{answer, start_fault, started, advance_fault, advanced, ends_answer, verdict_answer, EndsMean, VerdictMeans};
 
 use crate::aim::Aim;
-use crate::ends::advance;
+use crate::ends::advanced_ends;
 use crate::fault::TrialFault;
 use crate::judge::judge_with_ends;
 use crate::state::QueryState;
@@ -20,9 +20,10 @@ use model::source::Source;
 use records::comparison::Comparison;
 use records::fault::JudgeFault;
 use records::record::Record;
+use rounds::interval::Interval;
 use rounds::run::MOST_ROUNDS;
 use rules::part::Part;
-use rules::rounding::Rounding;
+use rules::preference::Preference;
 use rules::units::WHOLE;
 
 // A trial over a source: it borrows the source, so that no call changes that while the trial lasts, and has a hold layer over
@@ -73,10 +74,8 @@ impl<'a, S: Source> Trial<'a, S> {
         if count > MOST_ROUNDS - query.rounds {
             return Err(TrialFault::Rounds);
         }
-        let down = query.aim.rule(Rounding::Down);
-        let up = query.aim.rule(Rounding::Up);
-        advance(layer, &down, &mut query.lower, &mut query.spare, count);
-        advance(layer, &up, &mut query.upper, &mut query.spare, count);
+        let preference = Preference::from(query.aim);
+        query.ends = advanced_ends(layer, preference, &query.ends, count);
         query.rounds += count;
         Ok(())
     }
@@ -91,7 +90,8 @@ impl<'a, S: Source> Trial<'a, S> {
         if state >= self.layer.states() {
             return Err(TrialFault::State);
         }
-        Ok((query.lower.at(state), query.upper.at(state), query.rounds))
+        let Interval { lower, upper } = query.ends.at(state);
+        Ok((lower, upper, query.rounds))
     }
 
     // The verdict at a state on "left until right within as many steps as there were rounds": how its probability compares
@@ -113,7 +113,7 @@ impl<'a, S: Source> Trial<'a, S> {
         if Aim::from(comparison) != query.aim {
             return Err(TrialFault::Aim);
         }
-        Ok(Threshold { comparison, bound }.read_off(lower, upper))
+        Ok(Threshold { comparison, bound }.read_off(Interval { lower, upper }))
     }
 
     // Judges the text of a formula over the source itself, whatever is held for the query. An accepted judge leaves no query

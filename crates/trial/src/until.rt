@@ -20,7 +20,7 @@ pub(crate) struct Until<'s, 'm, S: Source> {
 }
 
 // Is every byte 0 or 1?
-fn all_marks(bytes: &[u8]) -> bool
+pub(crate) fn all_marks(bytes: &[u8]) -> bool
     ensures { result ≡ all_marks bytes.now }
 {
     bytes.iter().all(|byte| *byte <= 1)

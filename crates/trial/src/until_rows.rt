@@ -36,8 +36,9 @@ impl<'s, 'm, S: Source> Until<'s, 'm, S> {
         requires { length row.old ≡ (S.Source.model self.now.source.now).states }
         ensures { row.new ≡ bytes (S.Source.model self.now.source.now).states (extremal_verdicts (bound_meant bound) (S.Source.model self.now.source.now) (sets self.now.left.now) (sets self.now.right.now)) }
     {
-        // The until of what is possible borrows both lists of marks, so they live here: a type that owned them would still want
-        // a `let` for itself and one for its until.
+        // The until of what is possible borrows both lists of marks, so they live here, and where an until with steps has its ends:
+        // a type that owned them would still want a `let` for itself and one for its until, and a method that lent the until to a
+        // closure would want the closure's clause at both places.
         let left = possible_marks(self.left);
         let right = possible_marks(self.right);
         let possible = Until::of_fronts(self.source, &left, &right);

@@ -13,11 +13,11 @@ use trial::aim::Aim;
 
 // The number that a word writes.
 pub(crate) fn number(word: &str) -> Result<u32, Failure> {
-    word.parse::<u32>().ok().ok_or(Failure::NoQuestion)
+    word.parse::<u32>().map_err(|_| Failure::NoQuestion)
 }
 
-// For whom a query asks. Words are read by functions here and below: what they give are types of other crates, in which alone
-// `FromStr` or `TryFrom` could be written for them.
+// For whom a query asks. Words are read by functions here and below, and not by impls of `FromStr` or `TryFrom` for what they
+// give: the words are those of this program's questions, and the crates of the types know no words.
 fn aim(word: &str) -> Result<Aim, Failure> {
     match word {
         "best" => Ok(Aim::Best),
@@ -63,7 +63,8 @@ fn query(heap: Global, who: &str, rounds: &str, left: &str, right: &str) -> Resu
     })
 }
 
-// Asks a question, given in words, over a source.
+// Asks a question, given in words, over a source. Here and in what is called with them `heap` and `source` are two arguments,
+// and so are `heap` and `digits`: the heap goes to whatever wants memory, and tells nothing of a source or of a row of digits.
 pub(crate) fn ask<S: Source>(heap: Global, source: &S, words: &[&str]) -> Result<String, Failure> {
     match words {
         ["ends", who, rounds, left, right] => {

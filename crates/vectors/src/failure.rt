@@ -1,9 +1,10 @@
 use ladder::fault::LadderFault;
+use printing::words::Refused;
 use records::fault::JudgeFault;
 use rounds::fault::RoundsFault;
 use std::alloc::AllocError;
 use std::fmt;
-use text::fault::{FieldPlace, FileFault};
+use text::fault::FileFault;
 use trial::fault::TrialFault;
 
 // Why a line has no answer: there is no memory, the line asks nothing, or a call refuses it.
@@ -54,20 +55,9 @@ impl From<RoundsFault> for Failure {
     }
 }
 
-// What a refusal begins with: the number of its fault.
+// What a refusal of anything but a text begins with: the number of its fault.
 fn write_refusal<W: fmt::Write>(f: &mut fmt::Formatter<W>, number: u8) -> fmt::Result {
     write!(f, "refused {number}")
-}
-
-// What a refused text is told: the number and the place of its fault.
-fn write_load<W: fmt::Write>(f: &mut fmt::Formatter<W>, fault: &FileFault) -> fmt::Result {
-    let line = fault.line();
-    write_refusal(f, fault.number())?;
-    write!(f, " line {line}")?;
-    match fault.field() {
-        Some(FieldPlace { field, length }) => write!(f, " field {field} length {length}"),
-        None => Ok(()),
-    }
 }
 
 impl fmt::Display for Failure {
@@ -75,14 +65,10 @@ impl fmt::Display for Failure {
         match self {
             Failure::Memory(_) => f.write_str("no memory"),
             Failure::NoQuestion => f.write_str("no question"),
-            Failure::Load(fault) => write_load(f, fault),
+            Failure::Load(fault) => write!(f, "{}", Refused(*fault)),
             Failure::Ladder(fault) => write_refusal(f, fault.number()),
             Failure::Trial(fault) => write_refusal(f, fault.number()),
-            Failure::Judge(fault) => {
-                let place = fault.place();
-                write_refusal(f, fault.number())?;
-                write!(f, " place {place}")
-            }
+            Failure::Judge(fault) => write!(f, "{fault}"),
             Failure::Rounds(fault) => write_refusal(f, fault.number()),
         }
     }

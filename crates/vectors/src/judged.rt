@@ -1,23 +1,11 @@
-use crate::chance::{Between, Places};
+use crate::chance::{Places, each_state};
 use crate::failure::Failure;
 use model::source::Source;
-use records::record::{Kind, Record};
+use records::record::{BLANK, Record};
 use std::alloc::Global;
 use std::fmt::Write;
 use trial::judge::judge_with_ends;
 use trial::trial::Trial;
-
-// A record before a formula is judged. It stands for no formula until it is filled, so `Record` has no `Default`.
-const BLANK: Record = Record {
-    kind: Kind::Truth,
-    first: 0,
-    second: 0,
-    comparison: None,
-    number: 0,
-    steps: 0,
-    yes: 0,
-    undecided: 0,
-};
 
 // What is lent to a judge: the records and the scratch of any formula over any source, and the output of this one.
 #[derive(Drop)]
@@ -75,15 +63,7 @@ pub(crate) fn ends<S: Source>(
         lent.out.as_mut_slice(),
     )?;
     let ends = judged.ends.ok_or(Failure::NoQuestion)?;
-    let mut out = String::new(heap);
-    for state in 0..source.states() {
-        let (lower, upper) = ends.at(state).ok_or(Failure::NoQuestion)?;
-        let chance = Between {
-            lower,
-            upper,
-            places,
-        };
-        write!(out, " {chance}")?;
-    }
-    Ok(out)
+    each_state(heap, source.states(), places, |state| {
+        ends.at(state).ok_or(Failure::NoQuestion)
+    })
 }

@@ -1,9 +1,8 @@
-use crate::chance::{Between, Places};
+use crate::chance::{Places, each_state};
 use crate::failure::Failure;
 use model::source::Source;
 use records::comparison::Comparison;
 use std::alloc::{AllocError, Global};
-use std::fmt::Write;
 use trial::aim::Aim;
 use trial::fault::TrialFault;
 use trial::trial::Trial;
@@ -48,17 +47,10 @@ impl Query {
         places: Places,
     ) -> Result<String, Failure> {
         let trial = self.run(source)?;
-        let mut out = String::new(heap);
-        for state in 0..source.states() {
+        each_state(heap, source.states(), places, |state| {
             let (lower, upper, _) = trial.ends(state)?;
-            let chance = Between {
-                lower,
-                upper,
-                places,
-            };
-            write!(out, " {chance}")?;
-        }
-        Ok(out)
+            Ok((lower, upper))
+        })
     }
 
     // The verdict at a state on a comparison with a bound. Its words stand here: those of the programs stand in crates of what

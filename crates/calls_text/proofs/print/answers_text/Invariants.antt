@@ -6,7 +6,4 @@ use Rattle.calls_text.proofs.print.answers_text.Given as goal
 abbrev pub invariant-loop-call : goal.invariant-loop-call
 invariant-loop-call g l =
     let n = (g.S.Source.model l.source).states in
-    record {
-      told : string_bytes l.printer.out ++ printed n l.printer.kept (drop l.call-index l.calls) ≡ printed n None l.calls;
-      states : l.printer.states ≡ n;
-    }
+    string_bytes l.printer.out ++ printed n l.printer.kept (drop l.call-index l.calls) ≡ printed n None l.calls

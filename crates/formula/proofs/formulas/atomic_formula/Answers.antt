@@ -21,7 +21,7 @@ pub returns-in-97-to-112 : goal.returns-in-97-to-112
 returns-in-97-to-112 c =
     let (long, first) = rest_of c.args.from.text.now c.args.from.at in
     known c.atom-in-97-to-112.ensures
-    (read_label (omega arith) (omega (arith, c.in-97-to-112.len_at_least, long)) (omega (arith, first)) (omega (arith, first)) (rw first at c.atomic-in-97-to-112.ensures) c.put-in-97-to-112.ensures)
+    (read_label (omega arith) (omega (arith, c.in-97-to-112.len_at_least, long)) (omega (arith, first)) (omega (arith, first)) (rw first at rw c.from.ensures at c.atomic-in-97-to-112.ensures) c.put-in-97-to-112.ensures)
 
 -- `none_refused`: neither `true` nor a letter begins where the text ends
 pub returns-in_default : goal.returns-in_default

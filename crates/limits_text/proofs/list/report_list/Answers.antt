@@ -1,5 +1,7 @@
-use Rattle.std.proofs.Common.{◌≡◌, ◌<◌, ◌≤◌, map, length, sym, ap, ◌∙◌, count_by, arith}
-use Rattle.std.proofs.lemmas.List.{length-map, get_or-map}
+use Rattle.std.proofs.Common.{◌≡◌, ℕ, ◌<◌, ◌≤◌, ◌++◌, map, length, List, option_to_list, Ok, sym, ap, ◌∙◌, count_by, arith}
+use Rattle.std.proofs.lemmas.List.{length-map, get_or-map, map-id}
+use Rattle.std.proofs.lemmas.Iterator.Adapters.{fact_from_extend, YieldsList-from_once}
+use Rattle.limits_text.specs.declared.outcome.Outcome.{Outcome}
 use Rattle.limits_text.specs.Lists.{is_formula, list_lines}
 use Rattle.limits_text.proofs.Reporting.{reported_none, reported_more, reported_all}
 use Rattle.limits_text.proofs.list.report_list.Goals as goal
@@ -14,7 +16,10 @@ loop-index-preserved g c =
     let lines = c.deref-line-items.result.now in
     let k = c.loop-index.index in
     let within : k < length (map (λ p. p.now) lines) = omega (arith, length-map lines (λ p. p.now), c.loop-index-test.true) in
-    reported_more _ _ _ k _ _ _ _ _ c.loop-index.invariant _ within (sym (get_or-map (λ p. p.now) lines k _ _ c.loop-index-test.true)) _ _ _ _ _ (c.len.ensures ∙ c.loop-index.outcomes.ok.0) c.in_ok-tell_line.ensures c.in_ok-outcome.ensures c.in_ok-keep.ensures
+    let outcomes = c.loop-index.outcomes.items in
+    let outcome = c.in_ok-outcome.outcome in
+    let kept : c.extend.new.self.items ≡ outcomes ++ option_to_list outcome = fact_from_extend {E = ℕ} (λ o. o) (Ok tt) c.in_ok-extend.ensures.ran (λ it b. YieldsList-from_once outcome b.0) (λ xs e h. h.0 ∙ ap (λ (os : List Outcome). outcomes ++ os) (sym (map-id xs) ∙ e)) in
+    reported_more _ _ _ k _ _ _ _ _ c.loop-index.invariant _ within (sym (get_or-map (λ p. p.now) lines k _ _ c.loop-index-test.true)) _ _ _ _ _ (c.len.ensures ∙ c.loop-index.outcomes.ok.0) c.in_ok-tell_line.ensures c.in_ok-outcome.ensures kept
 
 -- all lines are
 pub returns : goal.returns

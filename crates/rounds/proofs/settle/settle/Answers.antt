@@ -2,6 +2,11 @@ use Rattle.std.proofs.Common.{◌≡◌, suc, false, sym, ap, ◌∙◌, add-one
 use Rattle.std.specs.Cmp.{booleans_Decides}
 use Rattle.std.proofs.lemmas.Bool.{both_ways}
 use Rattle.std.proofs.lemmas.Slice.Eq.{slice_eq-Decides}
+use Rattle.theory.specs.Mixes.{mix_marks}
+use Rattle.rules.specs.Values.{told}
+use Rattle.rules.specs.Marks.{prefers_mark}
+use Rattle.rules.specs.MarkLaws.{marks_lawful}
+use Rattle.rounds.proofs.Backups.{rule_round}
 use Rattle.rounds.proofs.Settling.{list_after, list_none, list_more, settled_same, settled_here, unsettled_here}
 use Rattle.rounds.proofs.settle.settle.Goals as goal
 
@@ -24,7 +29,7 @@ loop-done-preserved g c =
     let p = c.args.rule.now.preference in
     let marks = c.args.marks.now in
     let done = c.loop-done.done in
-    let more = list_more p m l marks done c.loop-done.marks c.one_round.new.values c.loop-done.invariant.0 (c.one_round.ensures.values false) in
+    let more = list_more p m l marks done c.loop-done.marks c.one_round.new.values c.loop-done.invariant.0 (c.one_round.ensures.values false ∙ rule_round (prefers_mark p) mix_marks (marks_lawful p) m false (told c.loop-done.marks false)) in
     let before = c.one_round.ensures.spare ∙ c.loop-done.invariant.0 in
     let few = c.if-done-states.false in
     let same = slice_eq-Decides booleans_Decides _ _ _ c.eq.ensures in (
@@ -53,7 +58,7 @@ returns-then-eq g c =
     let p = c.args.rule.now.preference in
     let marks = c.args.marks.now in
     let done = c.loop-done.done in
-    let more = list_more p m l marks done c.loop-done.marks c.one_round.new.values c.loop-done.invariant.0 (c.one_round.ensures.values false) in
+    let more = list_more p m l marks done c.loop-done.marks c.one_round.new.values c.loop-done.invariant.0 (c.one_round.ensures.values false ∙ rule_round (prefers_mark p) mix_marks (marks_lawful p) m false (told c.loop-done.marks false)) in
     let states = c.states-states.ensures in
     let few = c.if-done-states.false in
     let same = slice_eq-Decides booleans_Decides _ _ _ c.eq.ensures in

@@ -3,5 +3,5 @@ use Rattle.console.proofs.Returning.{writes_nothing}
 use Rattle.console.proofs.check_reply.Limits.on.Goals as goal
 
 -- without a list nothing is written
-pub returns-in_default : goal.returns-in_default
-returns-in_default g c = writes_nothing _ _ _ (search rules)
+pub returns-in-Err : goal.returns-in-Err
+returns-in-Err g c = writes_nothing _ _ _ (search rules)

@@ -1,7 +1,8 @@
 use Rattle.std.proofs.Common.{◌≡◌, true, Ok, sym, ◌∙◌, subst, rules}
 use Rattle.text.specs.Cuts.{fields}
 use Rattle.flat.specs.Readings.{LineRead, all_there}
-use Rattle.flat.proofs.Following.{there, not_refused}
+use Rattle.text_laws.proofs.CompleteFits.{not_refused}
+use Rattle.flat.proofs.Following.{there}
 use Rattle.flat.proofs.loader.Loader.read_step.Goals as goal
 
 -- the line has no fault, all states are there if it is the end, and what it says is put

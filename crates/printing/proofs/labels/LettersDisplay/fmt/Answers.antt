@@ -1,16 +1,16 @@
-use Rattle.std.proofs.Common.{◌+◌, cond, [], ◌∷◌, ◌++◌, take, append-nil, sym, ap, ◌∙◌, rules, arith}
+use Rattle.std.proofs.Common.{◌+◌, true, false, cond, [], ◌∷◌, ◌++◌, take, append-nil, sym, ap, ◌∙◌, rules, arith}
 use Rattle.std.proofs.Output.{has_written_append, has_written_of_eq, has_written_to_eq}
 use Rattle.std.proofs.lemmas.List.{take_all}
 use Rattle.std.proofs.lemmas.Str.{encode_ascii}
 use Rattle.text.specs.Fields.{letters_from}
-use Rattle.printing.proofs.Spelling.{letters_more, none_written, some_written}
+use Rattle.text.proofs.Flags.{letters_more, labels_are}
 use Rattle.printing.proofs.labels.LettersDisplay.fmt.Goals as goal
 use Rattle.printing.proofs.labels.LettersDisplay.fmt.Goals.{then-there+in_ok-write, else-there}
 
 -- no flag is set: the dash
 pub returns-then-not-contains-clause-writes : goal.returns-then-not-contains-clause-writes
 returns-then-not-contains-clause-writes g c = λ plain ok.
-    has_written_of_eq _ _ _ _ _ (sym (none_written c.args.self.now.0.now.letters (sym c.contains.ensures.value ∙ c.if-not-contains.true))) (c.write.ensures.writes plain ok)
+    has_written_of_eq _ _ _ _ _ (labels_are c.args.self.now.0.now.letters false (sym c.if-not-contains.true ∙ c.contains.ensures.value)) (c.write.ensures.writes plain ok)
 
 -- the letters so far, with the next where its flag is set
 pub loop-index-preserved : goal.loop-index-preserved
@@ -33,5 +33,5 @@ pub returns-clause-writes : goal.returns-clause-writes
 returns-clause-writes g c = λ plain ok.
     let flags = c.args.self.now.0.now.letters in
     has_written_of_eq _ _ _ _ _
-    (ap (letters_from 97) (take_all c.loop-index.index flags (omega arith)) ∙ sym (some_written flags (sym c.contains.ensures.value ∙ c.if-not-contains.false)))
+    (ap (letters_from 97) (take_all c.loop-index.index flags (omega arith)) ∙ labels_are flags true (sym c.if-not-contains.false ∙ c.contains.ensures.value))
     (c.loop-index.invariant plain)

@@ -27,14 +27,18 @@ over x n small =
     near_above room x.value n x.reciprocal (near x n) x.some_unit small (lt-div-mul-add {a = n * x.reciprocal} {b = room} some) whole
 
 pub overflow_sub-number : goal.overflow_sub-number
-overflow_sub-number c = under c.args.self.now c.args.number
+overflow_sub-number c = rw (c.from-value.ensures, c.from.ensures, c.from-2.ensures) (under c.args.self.now c.args.number)
 
 pub returns-then-number-near : goal.returns-then-number-near
 returns-then-number-near c =
     let x = c.args.self.now in
-    quotient_same x.value c.args.number (near x c.args.number) x.some_unit (under x c.args.number) c.if-number-near.true
+    let n = c.args.number in
+    let rest = rw (c.from-value.ensures, c.from.ensures, c.from-2.ensures) at c.if-number-near.true in
+    rw (c.from.ensures, c.from-2.ensures) (quotient_same x.value n (near x n) x.some_unit (under x n) rest)
 
 pub returns-else-number-near : goal.returns-else-number-near
 returns-else-number-near c =
     let x = c.args.self.now in
-    quotient_more x.value c.args.number (near x c.args.number) x.some_unit (under x c.args.number) c.if-number-near.false (over x c.args.number c.ranges.number.fits)
+    let n = c.args.number in
+    let rest = rw (c.from-value.ensures, c.from.ensures, c.from-2.ensures) at c.if-number-near.false in
+    rw (c.from.ensures, c.from-2.ensures) (quotient_more x.value n (near x n) x.some_unit (under x n) rest (over x n c.ranges.number.fits))

@@ -1,6 +1,6 @@
 use Rattle.std.proofs.Common.{true, false, sym, ◌∙◌}
+use Rattle.text.proofs.Flags.{labels_are}
 use Rattle.tables.proofs.Pages.{put_same}
-use Rattle.tables.proofs.Pieces.{labels_are}
 use Rattle.tables.proofs.page.Page.labels.Goals as goal
 
 pub returns-then-contains : goal.returns-then-contains

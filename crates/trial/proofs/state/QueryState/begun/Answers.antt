@@ -12,7 +12,7 @@ returns g c = let right = marked c.args.until.now.right.now in record {
   -- the marks at the front of the room are those given, state by state
   left_marks = sym (same_number_lists _ _ (search rules) (λ s h. let made = c.of.ensures 0 s h in sym (get_or-take _ _ s 0 h ∙ search rules)));
   right_marks = sym (same_number_lists _ _ (search rules) (λ s h. let made = c.of-2.ensures 0 s h in sym (get_or-take _ _ s 0 h ∙ search rules)));
-  -- an end that has the parts of the start has its units
-  lower = λ d s h. ap units_of (c.start_ends.ensures d s h) ∙ start_units right s;
-  upper = λ d s h. ap units_of (c.start_ends-2.ensures d s h) ∙ start_units right s;
+  -- ends that have the parts of the start have its units
+  lower = λ d s h. ap units_of (c.start_ends.ensures.lower d s h) ∙ start_units right s;
+  upper = λ d s h. ap units_of (c.start_ends.ensures.upper d s h) ∙ start_units right s;
 }

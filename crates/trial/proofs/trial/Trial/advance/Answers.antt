@@ -1,8 +1,9 @@
-use Rattle.std.proofs.Common.{◌≡◌, Some, sym, rules}
+use Rattle.std.proofs.Common.{◌≡◌, Some, map, sym, rules}
 use Rattle.model.specs.HoldLaws.{hold_lawful}
 use Rattle.layers.specs.Holds.{held_model}
 use Rattle.theory.specs.Ends.{held, stops, start}
 use Rattle.rules.specs.declared.rounding.Rounding.TheVariants.{Down, Up}
+use Rattle.rounds.specs.Ends.{lower_of, upper_of}
 use Rattle.trial.specs.Aims.{preference_of}
 use Rattle.trial.specs.Queries.{marked}
 use Rattle.trial.specs.Keeping.{query_in}
@@ -37,7 +38,7 @@ invariant_of-self-2 g c =
       -- both ends have k rounds more over the held layer
       kept = query_kept m flags _ (record {
         layer = keeps.layer;
-        lower = λ d. end_more Down p c.rule-down.result c.rule-down.ensures.rounding c.rule-down.ensures.preference (held left right m) (held_model m flags) lawful keeps.layer (start right) t.rounds k t.lower.values c.advance.new.ends.values d (keeps.lower d) (c.advance.ensures d d);
-        upper = λ d. end_more Up p c.rule-up.result c.rule-up.ensures.rounding c.rule-up.ensures.preference (held left right m) (held_model m flags) lawful keeps.layer (start right) t.rounds k t.upper.values c.advance-2.new.ends.values d (keeps.upper d) (c.advance-2.ensures d d);
+        lower = λ d. end_more Down p _ c.from-preference.ensures (held left right m) (held_model m flags) lawful keeps.layer (start right) t.rounds k (map lower_of t.ends.values) _ d (keeps.lower d) (c.advanced_ends-query.ensures.lower d d);
+        upper = λ d. end_more Up p _ c.from-preference.ensures (held left right m) (held_model m flags) lawful keeps.layer (start right) t.rounds k (map upper_of t.ends.values) _ d (keeps.upper d) (c.advanced_ends-query.ensures.upper d d);
       });
     }

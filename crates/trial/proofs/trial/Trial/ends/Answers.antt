@@ -1,5 +1,7 @@
-use Rattle.std.proofs.Common.{◌≡◌, ◌<◌, Some, ap, ◌∙◌, arith, rules}
+use Rattle.std.proofs.Common.{◌≡◌, ◌<◌, Some, sym, ap, ◌∙◌, arith, rules}
+use Rattle.std.proofs.Math.ListN.{get_or-map}
 use Rattle.rules.specs.Parts.{part_of, units_of}
+use Rattle.rounds.specs.Ends.{lower_of, upper_of, lower_units, upper_units, point}
 use Rattle.trial.specs.Keeping.{query_in, standing}
 use Rattle.trial.proofs.Queries.{ends_answered, ends_mean}
 use Rattle.trial.proofs.trial.Trial.ends.Goals as goal
@@ -16,9 +18,11 @@ returns g c =
     let under = c.if-state-states.false in
     let there : c.args.state < m.states = omega arith in
     let d = part_of 0 in
+    let lower = ap lower_units (c.at.ensures (point d)) ∙ ap units_of (sym (get_or-map lower_of t.ends.values c.args.state (point d))) in
+    let upper = ap upper_units (c.at.ensures (point d)) ∙ ap units_of (sym (get_or-map upper_of t.ends.values c.args.state (point d))) in
     record {
       -- both ends that are kept are the query's
-      answer = ends_answered m (standing m.states trial.query) (query_in m.states t) (ap (standing m.states) stands) c.args.state there c.at.result c.at-2.result
-          (ap units_of (c.at.ensures d) ∙ keeps.lower d c.args.state there) (ap units_of (c.at-2.ensures d) ∙ keeps.upper d c.args.state there);
+      answer = ends_answered m (standing m.states trial.query) (query_in m.states t) (ap (standing m.states) stands) c.args.state there c.at.result.lower c.at.result.upper
+          (lower ∙ keeps.lower d c.args.state there) (upper ∙ keeps.upper d c.args.state there);
       meaning = ends_mean m (g.S.Source.lawful x) (standing m.states trial.query) c.args.state;
     }

@@ -1,4 +1,5 @@
-use Rattle.std.proofs.Common.{take, ap, ◌∙◌, arith}
+use Rattle.std.proofs.Common.{◌≡◌, ℕ, zero, suc, true, not, eqb, ◌||◌, List, [], ◌∷◌, take, refl, ap, ◌∙◌, arith, rules}
+use Rattle.std.proofs.lemmas.Bool.{and_parts}
 use Rattle.theory.specs.Ends.{held, lower, upper}
 use Rattle.theory.specs.Mixes.{mix_up}
 use Rattle.theory.proofs.Alike.{held_alike}
@@ -6,11 +7,44 @@ use Rattle.theory.proofs.WithoutSteps.{held_lawful}
 use Rattle.rules.specs.declared.rounding.Rounding.TheVariants.{Down, Up}
 use Rattle.rules.specs.Parts.{prefers_number}
 use Rattle.rules.specs.PartsLemmas.{numbers_lawful}
+use Rattle.trial.specs.Answers.{all_marks}
 use Rattle.trial.specs.Aims.{preference_of, aim_for}
 use Rattle.trial.specs.Queries.{marked}
 use Rattle.trial.specs.Rows.{sets}
 use Rattle.trial.proofs.PathRows.{marked_front, ends_units, asked_for}
 use Rattle.trial.proofs.until.Until.within_ends.Goals as goal
+
+-- where every byte is a mark, what is sure is what is possible
+decided : (bytes : List ℕ) → all_marks bytes ≡ true → (s : ℕ) → (sets bytes).sure s ≡ (sets bytes).possible s
+decided [] e s = refl
+decided (b ∷ bs) e zero = one b (and_parts (eqb b 0 || eqb b 1) (all_marks bs) e).0
+  where
+    one : (b : ℕ) → (eqb b 0 || eqb b 1) ≡ true → eqb b 1 ≡ not (eqb b 0)
+    one b e = grind arith
+decided (b ∷ bs) e (suc s) = decided bs (and_parts (eqb b 0 || eqb b 1) (all_marks bs) e).1 s
+
+pub returns-then-all_marks-2 : goal.returns-then-all_marks-2
+returns-then-all_marks-2 g c =
+    let until = c.args.self.now in
+    let m = g.S.Source.model until.source.now in
+    let l = g.S.Source.lawful until.source.now in
+    let v = sets until.left.now in
+    let w = sets until.right.now in
+    let preferred = prefers_number (preference_of (aim_for c.args.comparison)) in
+    let same = c.into.ensures ∙ ap preference_of c.from-aim.ensures in
+    let ends = c.decided_ends.ensures in
+    let k = c.args.steps in
+    record {
+      so_many = ends.so_many;
+      lower = λ d s h. ends.lower d s h
+          ∙ ap (λ p. lower (prefers_number p) v.sure w.sure k m s) same
+          ∙ ap (λ q. lower q v.sure w.sure k m s) (asked_for c.args.comparison);
+      upper = λ d s h. ends.upper d s h
+          ∙ ap (λ p. upper (prefers_number p) v.sure w.sure k m s) same
+          ∙ held_alike m l s h preferred mix_up (numbers_lawful Up (preference_of (aim_for c.args.comparison))) v.sure v.possible w.sure w.possible
+          (λ t q. decided until.left.now (search rules) t) (λ t q. decided until.right.now (search rules) t) k
+          ∙ ap (λ q. upper q v.possible w.possible k m s) (asked_for c.args.comparison);
+    }
 
 pub returns : goal.returns
 returns g c =
