@@ -41,7 +41,7 @@ fn weighted_sums(denominator: &Denominator, row: &[Branch], values: &[Interval])
     let (mut lower, mut upper) = (0, 0);
     for branch in row {
         let weight = u64::from(branch.weight);
-        let ends = values[branch.target];
+        let ends = &values[branch.target];
         lower += weight * u64::from(ends.lower.units());
         upper += weight * u64::from(ends.upper.units());
     }
