@@ -116,17 +116,10 @@ impl<S: Source> Source for Hold<S> {
         }
     }
 
-    fn lend_row<'b>(
-        &'b self,
-        state: usize,
-        choice: usize,
-        buffer: &'b mut [Branch],
-    ) -> &'b [Branch] {
-        if self.back(state).is_none() {
-            return self.below.lend_row(state, choice, buffer);
+    fn kept_row(&self, state: usize, choice: usize) -> Option<&[Branch]> {
+        if self.back(state).is_some() {
+            return None;
         }
-        // What `lend_row` does where a source has none of its own, which one that has cannot call.
-        let count = self.read_row(state, choice, buffer);
-        &buffer[..count.min(buffer.len())]
+        self.below.kept_row(state, choice)
     }
 }

@@ -36,12 +36,7 @@ impl<'a, S: Source> Source for &'a S {
         (**self).read_row(state, choice, into)
     }
 
-    fn lend_row<'b>(
-        &'b self,
-        state: usize,
-        choice: usize,
-        buffer: &'b mut [Branch],
-    ) -> &'b [Branch] {
-        (**self).lend_row(state, choice, buffer)
+    fn kept_row(&self, state: usize, choice: usize) -> Option<&[Branch]> {
+        (**self).kept_row(state, choice)
     }
 }

@@ -1,4 +1,4 @@
-ghost use Rattle.std.specs.Prelude.{◌≡◌, ℕ, ◌+◌, ◌<◌, ◌≤◌, length, take, slice_index_or};
+ghost use Rattle.std.specs.Prelude.{◌≡◌, ℕ, ◌+◌, ◌<◌, ◌≤◌, length, take, slice_index_or, IfSome};
 ghost use Rattle.model.specs.Mdp.{Mdp, Lawful, row, no_branch, over};
 
 use crate::branch::Branch;
@@ -50,12 +50,10 @@ pub trait Source {
         count
     }
 
-    // The branches of a choice, as many as the buffer has room for. They are lent from where the source keeps them, or
-    // else written over the front of the buffer and lent from there.
-    fn lend_row<'b>(&'b self, state: usize, choice: usize, buffer: &'b mut [Branch]) -> &'b [Branch]
-        ensures { result.now ≡ take (length buffer.old) (row (model self.now) state choice) }
+    // The branches of a choice, lent from where the source keeps them; nothing where it keeps none, and they are to be read.
+    fn kept_row(&self, state: usize, choice: usize) -> Option<&[Branch]>
+        ensures { IfSome result (λ r. r.now ≡ row (model self.now) state choice) }
     {
-        let count = self.read_row(state, choice, buffer);
-        &buffer[..count.min(buffer.len())]
+        None
     }
 }

@@ -1,4 +1,4 @@
-ghost use Rattle.std.specs.Prelude.{◌≡◌, ◌<◌, length};
+ghost use Rattle.std.specs.Prelude.{◌≡◌, ◌<◌, length, take};
 ghost use Rattle.model.specs.Mdp.{row};
 ghost use Rattle.theory.specs.Rounds.{mixed as mixed_row};
 ghost use Rattle.rules.specs.Values.{told};
@@ -10,9 +10,27 @@ use model::limits::STATES;
 use model::source::Source;
 use rules::denominator::Denominator;
 
-// A buffer for the branches of one row, for a source that does not lend its rows. No row has more branches than there can be
+// A buffer for the branches of one row, for a source that does not keep its rows. No row has more branches than there can be
 // states. The room is fixed, since a round may want no memory.
 pub(crate) type Buffer = [Branch; STATES];
+
+// The branches of a choice, as many as the buffer has room for: from where the source keeps them, or read into the buffer.
+fn lend_row<'b, S: Source>(
+    source: &'b S,
+    state: usize,
+    choice: usize,
+    buffer: &'b mut [Branch],
+) -> &'b [Branch]
+    ensures { result.now ≡ take (length buffer.old) (row (S.Source.model source.now) state choice) }
+{
+    match source.kept_row(state, choice) {
+        Some(row) => &row[..row.len().min(buffer.len())],
+        None => {
+            let count = source.read_row(state, choice, buffer);
+            &buffer[..count.min(buffer.len())]
+        }
+    }
+}
 
 // What a round reads: the model, its denominator, the backup, and a value of each state.
 #[derive(Drop)]
@@ -31,7 +49,7 @@ impl<'a, S: Source, B: Backup> Round<'a, S, B> {
         requires there { choice < length ((S.Source.model self.now.source.now).choices state) }
         ensures { (d : B.Value) → result ≡ mixed_row (B.Backup.mixed self.now.backup.now) (S.Source.model self.now.source.now) (told self.now.values.now d) (row (S.Source.model self.now.source.now) state choice) }
     {
-        let row = self.source.lend_row(state, choice, buffer);
+        let row = lend_row(self.source, state, choice, buffer);
         self.backup.mix(&self.denominator, row, self.values)
     }
 

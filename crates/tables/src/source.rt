@@ -54,14 +54,8 @@ impl Source for Tables {
         row.len()
     }
 
-    fn lend_row<'b>(
-        &'b self,
-        state: usize,
-        choice: usize,
-        buffer: &'b mut [Branch],
-    ) -> &'b [Branch] {
-        let row = self.row(state, choice);
-        &row[..row.len().min(buffer.len())]
+    fn kept_row(&self, state: usize, choice: usize) -> Option<&[Branch]> {
+        Some(self.row(state, choice))
     }
 }
 
