@@ -17,11 +17,13 @@ use Rattle.records.specs.declared.fault.JudgeFault.{JudgeFault}
 use Rattle.records.specs.declared.fault.JudgeFault.TheVariants as judge
 use Rattle.formula.specs.declared.reading.Reading.{Reading}
 use Rattle.formula.specs.Records.{size, records}
-use Rattle.formula.specs.Questions.{placed, fault_by, formula_fault}
+use Rattle.formula.specs.Questions.{first_large, first_unbounded, placed, fault_by, formula_fault}
+use Rattle.formula.specs.Places.{LargeNumber, UnboundedUntil, FirstIfAny}
 use Rattle.formula.specs.Readings.{overlaid, StateRead, StateReads}
-use Rattle.formula.specs.Answers.{Begins, NoFormula, WholeRead, Within, Accepted, Faulty, FormulaAnswer, JudgeAnswer}
+use Rattle.formula.specs.Answers.{Begins, NoFormula, WholeRead, Within, Placed, Accepted, Faulty, FormulaAnswer, JudgeAnswer}
 use Rattle.formula.proofs.Forms.{state_word, length_records}
 use Rattle.formula.proofs.Limits.{limits}
+use Rattle.formula.proofs.Places.{places}
 
 -- the beginning of a list that goes past its front
 take_past : (u v : List ℕ) (m n : ℕ) → n ≡ length u + m → take n (u ++ v) ≡ u ++ take m v
@@ -102,6 +104,30 @@ no_question None true false unbounded p e = absurd cc
 no_question None true true (Some q) p e = absurd cc
 no_question None true true None p e = absurd cc
 
+-- the fault of a large number tells the place of the first
+number_told : (large : Option ℕ) (deep few : Bool) (unbounded : Option ℕ) (p : ℕ) → first (placed fault.Number large ∷ ask deep fault.Depth ∷ ask few fault.Records ∷ placed fault.Until unbounded ∷ []) ≡ Some (fault.Number p) → large ≡ Some p
+number_told (Some q) deep few unbounded p e = cc
+number_told None false few unbounded p e = absurd cc
+number_told None true false unbounded p e = absurd cc
+number_told None true true (Some q) p e = absurd cc
+number_told None true true None p e = absurd cc
+
+-- that of an until under a bound that it may not have tells the place of the first
+until_told : (large : Option ℕ) (deep few : Bool) (unbounded : Option ℕ) (p : ℕ) → first (placed fault.Number large ∷ ask deep fault.Depth ∷ ask few fault.Records ∷ placed fault.Until unbounded ∷ []) ≡ Some (fault.Until p) → unbounded ≡ Some p
+until_told (Some q) deep few unbounded p e = absurd cc
+until_told None false few unbounded p e = absurd cc
+until_told None true false unbounded p e = absurd cc
+until_told None true true (Some q) p e = cc
+until_told None true true None p e = absurd cc
+
+-- so the place of a formula's fault is the first of its kind
+fault_placed : (f : Formula) → Spelled f → (n : ℕ) (e : FormulaFault) → formula_fault n f ≡ Some e → Placed (print f) e
+fault_placed f l n (fault.NoFormula p) x = tt
+fault_placed f l n (fault.Number p) x = subst (FirstIfAny (LargeNumber (print f))) (number_told (first_large 0 f) _ _ (first_unbounded 0 f) p x) (places f l).0
+fault_placed f l n fault.Depth x = tt
+fault_placed f l n fault.Records x = tt
+fault_placed f l n (fault.Until p) x = subst (FirstIfAny (UnboundedUntil (print f))) (until_told (first_large 0 f) _ _ (first_unbounded 0 f) p x) (places f l).1
+
 -- a text whose formula has this fault is refused with it
 pub faulty : {text : List ℕ} {r : Reading} (n : ℕ) (s : WholeRead text r) (e : FormulaFault) → fault_by r.large r.depth r.count n r.unbounded ≡ Some e → (lent : List Record) → length lent ≡ n → FormulaAnswer text lent lent (Err e)
 faulty {text} {r} n s e x lent l = each e (record {
@@ -109,6 +135,7 @@ faulty {text} {r} n s e x lent l = each e (record {
   spelled = s.spelled;
   spells = s.spells;
   refused = ap (λ k. formula_fault k s.formula) l ∙ sym (same_fault n s) ∙ x;
+  first = subst (λ z. Placed z e) (sym s.spells) (fault_placed s.formula s.spelled n e (sym (same_fault n s) ∙ x));
   kept = refl;
 }) x
   where

@@ -1,8 +1,7 @@
 -- What reading a whole text as a formula answers.
-use Rattle.std.specs.Prelude.{◌≡◌, ℕ, ◌+◌, ◌<◌, ◌≤◌, ◌↔◌, List, [], ◌∷◌, ◌++◌, length, take, Some, None, Ok, Err, decimal, Result}
+use Rattle.std.specs.Prelude.{◌≡◌, ℕ, ◌<◌, ◌≤◌, ◌↔◌, List, ◌++◌, length, take, Some, None, Ok, Err, Result}
 use Rattle.model.specs.Mdp.{over}
-use Rattle.theory.specs.Formulas.{Formula, LawfulFormula, most_steps}
-use Rattle.grammar.specs.Words.{Stands}
+use Rattle.theory.specs.Formulas.{Formula, LawfulFormula}
 use Rattle.grammar.specs.Spelling.{print, Spelled}
 use Rattle.grammar.specs.Languages.{StateWord}
 use Rattle.records.specs.declared.record.Record.{Record}
@@ -13,6 +12,7 @@ use Rattle.records.specs.declared.fault.JudgeFault.TheVariants as judge
 use Rattle.formula.specs.Records.{size, records}
 use Rattle.formula.specs.declared.reading.Reading.{Reading}
 use Rattle.formula.specs.Questions.{first_large, first_unbounded, depth, formula_fault}
+use Rattle.formula.specs.Places.{LargeNumber, UnboundedUntil, FirstAt, FirstIfAny}
 
 -- w begins the text of a formula, of whatever length and depth
 abbrev pub Begins : List ℕ → Type 0
@@ -36,17 +36,20 @@ pub record Within (lent : ℕ) (f : Formula) : Type 0 where
 abbrev pub Limits : Type 0
 Limits = (lent : ℕ) (f : Formula) → Spelled f → (formula_fault lent f ≡ None) ↔ Within lent f
 
--- a number above the most steps stands in the text at p
-pub record LargeAt (text : List ℕ) (p : ℕ) : Type 0 where
-  pub number : ℕ
-  pub above : most_steps < number
-  pub stands : Stands (decimal number) text p (p + length (decimal number))
-
--- the theorem of the places: at that of the first large number a large number stands, at that of the first `P` over an
--- until that may not stand there a `P` (80) does
+-- the theorem of the places: the place that is told of numbers is that of the first number above its own limit, and the
+-- other that of the first `P` over an until without steps that may not stand there; none is told where there is none
 abbrev pub Places : Type 0
-Places = (f : Formula) → Spelled f → (p : ℕ) →
-    (first_large 0 f ≡ Some p → LargeAt (print f) p) × (first_unbounded 0 f ≡ Some p → Stands (80 ∷ []) (print f) p (p + 1))
+Places = (f : Formula) → Spelled f →
+    FirstIfAny (LargeNumber (print f)) (first_large 0 f) × FirstIfAny (UnboundedUntil (print f)) (first_unbounded 0 f)
+
+-- what the place of a fault says of the text: there begins the first number above its own limit, or the first `P` that
+-- may not stand over its until
+abbrev pub Placed : List ℕ → FormulaFault → Type 0
+Placed text (fault.NoFormula p) = Unit {0}
+Placed text (fault.Number p) = FirstAt (LargeNumber text) p
+Placed text fault.Depth = Unit {0}
+Placed text fault.Records = Unit {0}
+Placed text (fault.Until p) = FirstAt (UnboundedUntil text) p
 
 -- the text spells a formula that has no fault; its records are written over the front of those lent, and their number is told
 pub record Accepted (text : List ℕ) (lent left : List Record) (n : ℕ) : Type 0 where
@@ -57,12 +60,13 @@ pub record Accepted (text : List ℕ) (lent left : List Record) (n : ℕ) : Type
   pub number : n ≡ size formula
   pub written : left ≡ over (records 0 formula) lent
 
--- the text spells a formula that has this fault, and no record is changed
+-- the text spells a formula that has this fault, whose place is the first of its kind, and no record is changed
 pub record Faulty (text : List ℕ) (lent left : List Record) (e : FormulaFault) : Type 0 where
   pub formula : Formula
   pub spelled : Spelled formula
   pub spells : text ≡ print formula
   pub refused : formula_fault (length lent) formula ≡ Some e
+  pub first : Placed text e
   pub kept : left ≡ lent
 
 -- what is answered of the text of a formula

@@ -37,6 +37,7 @@ faulty text blank left other e same f = record {
   spelled = f.spelled;
   spells = f.spells;
   refused = ap (λ k. formula_fault k f.formula) same ∙ f.refused;
+  first = f.first;
   kept = refl;
 }
 
