@@ -1,5 +1,5 @@
 -- The answer on a text comes from the model that it describes, and commands that write nothing leave the writers.
-use Rattle.std.proofs.Common.{◌≡◌, ℕ, List, map, length, Option, None, Some, Result, Ok, Err, sym, refl, ap, ◌∙◌, subst, MatchOption}
+use Rattle.std.proofs.Common.{◌≡◌, ℕ, ◌+◌, inr, List, [], ◌∷◌, map, length, Option, None, Some, Result, Ok, Err, OnErr, sym, refl, ap, ◌∙◌, subst, MatchOption}
 use Rattle.std.specs.List.{range_with_len}
 use Rattle.std.proofs.lemmas.List.FromFn.{fill_by_all}
 use Rattle.std.proofs.KnownBytes.{Appends-nil}
@@ -11,8 +11,9 @@ use Rattle.text.specs.Texts.{Describes}
 use Rattle.printing.specs.Carets.{refusal_text}
 use Rattle.printing.specs.Layouts.{state_of, model_content}
 use Rattle.console.specs.declared.command.Form.{Form}
-use Rattle.limits_text.specs.Lists.{Written, nothing, Writes}
-use Rattle.console.specs.Replies.{Answer, printed, refused, Gives, in_form, form_answer, TextFound, TextAnswer}
+use Rattle.limits_text.specs.declared.outcome.Outcome.{Outcome}
+use Rattle.limits_text.specs.Lists.{Written, nothing, LinesWritten, LinesBegun, ListReported, Writes, list_lines, formula_count}
+use Rattle.console.specs.Replies.{Answer, printed, refused, Gives, in_form, form_answer, TextFound, TextAnswer, LimitsBegun}
 
 -- what the model of a content has is that content
 content_back : (c : Content) → model_content (model_of c) ≡ c
@@ -39,3 +40,22 @@ refused_text on text f a is e =
 -- where nothing is written, the writers have what they had
 pub writes_nothing : (says : Written → Type 0) (o p : Option (List ℕ)) → says nothing → Writes says o o p p
 writes_nothing says o p said = record { written = nothing; said = said; out = Appends-nil o; progress = Appends-nil p }
+
+-- what holds anyway holds after an error
+pub after_error : {A E : Type 0} {P : Type 0} (r : Result A E) → P → OnErr r P
+after_error (Ok x) p = tt
+after_error (Err e) p = p
+
+-- what is written of some lines is a beginning of it
+lines_begun : (m : Mdp) (n i k : ℕ) (ls : List (List ℕ)) (w : Written) → LinesWritten m n i k ls w → LinesBegun m n i k ls w
+lines_begun m n i k [] w h = h
+lines_begun m n i k (l ∷ ls) w (first, rest, this, others, e) = inr (first, rest, this, lines_begun m n (i + length first.outcomes) (k + 1) ls rest others, e)
+
+-- so is what is written of a list
+pub whole_begun : (m : Mdp) (limits : Option (List ℕ)) (list : List ℕ) (outcomes : List Outcome) (o o' p p' : Option (List ℕ)) → limits ≡ Some list → Writes (ListReported m list outcomes) o o' p p' → Writes (LimitsBegun limits m) o o' p p'
+whole_begun m limits list outcomes o o' p p' given w = record {
+  written = w.written;
+  said = inr (list, given, lines_begun m (formula_count list) 0 1 (list_lines list) w.written w.said.0);
+  out = w.out;
+  progress = w.progress;
+}

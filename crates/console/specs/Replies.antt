@@ -1,5 +1,5 @@
 -- What the program answers to the words of the command line.
-use Rattle.std.specs.Prelude.{◌≡◌, ℕ, cond, List, map, ◌++◌, length, Some, None, Ok, Err, vec_items, string_bytes, codes, Option, Result, MatchOption, MatchResult, ◌==◌}
+use Rattle.std.specs.Prelude.{◌≡◌, ◌⊎◌, ℕ, cond, List, map, ◌++◌, length, Some, None, Ok, Err, vec_items, string_bytes, codes, Option, Result, MatchOption, MatchResult, ◌==◌}
 use Rattle.model.specs.Mdp.{Mdp}
 use Rattle.text.specs.Contents.{Content, model_of}
 use Rattle.text.specs.Texts.{text_of, Describes}
@@ -18,7 +18,7 @@ use Rattle.calls_text.specs.VerdictEnds.{VerdictsReadOff}
 use Rattle.flat.specs.Flats.{content}
 use Rattle.ladder.specs.Makes.{model_of as ladder_model_of}
 use Rattle.limits_text.specs.declared.summary.Summary.{Summary}
-use Rattle.limits_text.specs.Lists.{Written, nothing, ListWritten}
+use Rattle.limits_text.specs.Lists.{Written, nothing, ListWritten, ListBegun}
 use Rattle.limits_text.specs.Summaries.{summary_of, summary_text}
 use Rattle.console.specs.declared.found.Found.{Found}
 use Rattle.console.specs.declared.found.Found.TheVariants as found
@@ -168,6 +168,14 @@ LimitsAnswer path (Some list) (Ok m) w a = ListWritten m list w × (a ≡ summar
 abbrev pub CheckAnswer : ModelName → List ℕ → Option (List ℕ) → List ℕ → Option (List ℕ) → Written → Answer → Type 0
 CheckAnswer name path file limits list w a = (r : Result Mdp Answer) × ModelFound name path file r × LimitsAnswer limits list r w a
 
+-- what was written of a list of limits over a model where an error came: nothing, or a beginning of what is written of it
+abbrev pub LimitsBegun : Option (List ℕ) → Mdp → Written → Type 0
+LimitsBegun limits m w = (w ≡ nothing) ⊎ ((list : List ℕ) × (limits ≡ Some list) × ListBegun m list w)
+
+-- the same by the name of the model
+abbrev pub CheckBegun : ModelName → List ℕ → Option (List ℕ) → Option (List ℕ) → Written → Type 0
+CheckBegun name path file limits w = (w ≡ nothing) ⊎ ((m : Mdp) × ModelFound name path file (Ok m) × LimitsBegun limits m w)
+
 -- the path of a model's file, given the words of the command line
 abbrev pub model_path : ModelName → List (List ℕ) → Option (List ℕ)
 model_path File args = Some (word_at 1 args)
@@ -196,3 +204,18 @@ CommandAnswer (Err e) args file second w a = (w ≡ nothing) × (a ≡ wrong (mi
 -- the answer to the words of the command line and what is written before it, given the bytes of files 0 and 1 that they want read, if these could be read
 abbrev pub Answers : List (List ℕ) → Option (List ℕ) → Option (List ℕ) → Written → Answer → Type 0
 Answers args file second w a = CommandAnswer (command_of args) args file second w a
+
+-- what was written of a command where an error came, given the words of the command line and the bytes of files 0 and 1 that they
+-- want read: nothing, or a beginning of what is written of a list of limits
+abbrev pub CommandBegun : Result Command Mistake → List (List ℕ) → Option (List ℕ) → Option (List ℕ) → Written → Type 0
+CommandBegun (Ok Help) args file second w = w ≡ nothing
+CommandBegun (Ok (Print form m)) args file second w = w ≡ nothing
+CommandBegun (Ok (Rounds m r)) args file second w = w ≡ nothing
+CommandBegun (Ok Formula) args file second w = w ≡ nothing
+CommandBegun (Ok (Trial m)) args file second w = w ≡ nothing
+CommandBegun (Ok (Check m)) args file second w = CheckBegun m (word_at 1 args) file second w
+CommandBegun (Err e) args file second w = w ≡ nothing
+
+-- the same by the words of the command line
+abbrev pub Begun : List (List ℕ) → Option (List ℕ) → Option (List ℕ) → Written → Type 0
+Begun args file second w = CommandBegun (command_of args) args file second w

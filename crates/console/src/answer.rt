@@ -1,8 +1,8 @@
-ghost use Rattle.std.specs.Prelude.{◌≡◌, map, IfOk, string_bytes};
+ghost use Rattle.std.specs.Prelude.{◌≡◌, map, IfOk, OnErr, string_bytes};
 ghost use Rattle.std.specs.Option.{option_map};
 ghost use Rattle.limits_text.specs.Lists.{Writes};
 ghost use Rattle.console.specs.Commands.{command_of};
-ghost use Rattle.console.specs.Replies.{answer_of, Answers, FormulaTextAnswer, path_wanted};
+ghost use Rattle.console.specs.Replies.{answer_of, Answers, Begun, FormulaTextAnswer, path_wanted};
 
 use crate::check_reply::{Limits, Writers};
 use crate::command::{Command, ModelName};
@@ -53,7 +53,8 @@ pub fn path(args: &[String], file: usize) -> Option<&str>
 
 // The reply to the words of the command line, after the program's name, given the bytes of files 0 and 1 at the paths that they
 // want read, if these could be read. The reports of a list of limits are written as they are made, and their progress is told: to
-// two writers, which the program has one by one and a test may give of two types.
+// two writers, which the program has one by one and a test may give of two types. Where there is no memory or a write fails, a
+// beginning of this was written and told.
 pub fn reply<W: Write, P: Write>(
     heap: Global,
     args: &[String],
@@ -62,7 +63,12 @@ pub fn reply<W: Write, P: Write>(
     out: &mut W,
     progress: &mut P,
 ) -> io::Result<Reply>
-    ensures { IfOk result (λ a. Writes (λ w. Answers (map string_bytes args.now) (option_map (λ x. x.now) file.entry) (option_map (λ x. x.now) second.entry) w (answer_of a)) (W.Write.contents out.old) (W.Write.contents out.new) (P.Write.contents progress.old) (P.Write.contents progress.new)) }
+    ensures whole { IfOk result (λ a. Writes (λ w. Answers (map string_bytes args.now) (option_map (λ x. x.now) file.entry) (option_map (λ x. x.now) second.entry) w (answer_of a)) (W.Write.contents out.old) (W.Write.contents out.new) (P.Write.contents progress.old) (P.Write.contents progress.new)) }
+    ensures begun { OnErr result (Writes
+        (Begun (map string_bytes args.now)
+        (option_map (λ x. x.now) file.entry) (option_map (λ x. x.now) second.entry))
+        (W.Write.contents out.old) (W.Write.contents out.new)
+        (P.Write.contents progress.old) (P.Write.contents progress.new)) }
 {
     let path = word_at(args, 1);
     let file = GivenFile { path, bytes: file };

@@ -1,8 +1,8 @@
-ghost use Rattle.std.specs.Prelude.{◌≡◌, Ok, IfOk};
+ghost use Rattle.std.specs.Prelude.{◌≡◌, Ok, IfOk, OnErr};
 ghost use Rattle.std.specs.Option.{option_map};
 ghost use Rattle.limits_text.specs.Lists.{Writes};
 ghost use Rattle.limits_text.specs.Summaries.{summary_of};
-ghost use Rattle.console.specs.Replies.{answer_of, summary_answer, LimitsAnswer, CheckAnswer};
+ghost use Rattle.console.specs.Replies.{answer_of, summary_answer, LimitsAnswer, CheckAnswer, LimitsBegun, CheckBegun};
 
 use crate::found::Found;
 use crate::given::GivenFile;
@@ -50,7 +50,12 @@ impl Limits<'_> {
         source: &S,
         writers: Writers<'_, W, P>,
     ) -> io::Result<Reply>
-        ensures { IfOk result (λ a. Writes (λ w. LimitsAnswer self.now.0.path.now (option_map (λ x. x.now) self.now.0.bytes) (Ok (S.Source.model source.now)) w (answer_of a)) (W.Write.contents writers.entry.out.now) (W.Write.contents writers.exit.0.now) (P.Write.contents writers.entry.progress.now) (P.Write.contents writers.exit.1.0.now)) }
+        ensures whole { IfOk result (λ a. Writes (λ w. LimitsAnswer self.now.0.path.now (option_map (λ x. x.now) self.now.0.bytes) (Ok (S.Source.model source.now)) w (answer_of a)) (W.Write.contents writers.entry.out.now) (W.Write.contents writers.exit.0.now) (P.Write.contents writers.entry.progress.now) (P.Write.contents writers.exit.1.0.now)) }
+        ensures begun { OnErr result (Writes
+            (LimitsBegun (option_map (λ x. x.now) self.now.0.bytes) (S.Source.model source.now))
+            (W.Write.contents writers.entry.out.now) (W.Write.contents writers.exit.0.now)
+            (P.Write.contents writers.entry.progress.now)
+            (P.Write.contents writers.exit.1.0.now)) }
     {
         let Limits(file) = self;
         let list = match file.read(heap)? {
@@ -69,7 +74,14 @@ impl Limits<'_> {
         model: &Named<'_>,
         writers: Writers<'_, W, P>,
     ) -> io::Result<Reply>
-        ensures { IfOk result (λ a. Writes (λ w. CheckAnswer model.now.name model.now.file.path.now (option_map (λ x. x.now) model.now.file.bytes) self.now.0.path.now (option_map (λ x. x.now) self.now.0.bytes) w (answer_of a)) (W.Write.contents writers.entry.out.now) (W.Write.contents writers.exit.0.now) (P.Write.contents writers.entry.progress.now) (P.Write.contents writers.exit.1.0.now)) }
+        ensures whole { IfOk result (λ a. Writes (λ w. CheckAnswer model.now.name model.now.file.path.now (option_map (λ x. x.now) model.now.file.bytes) self.now.0.path.now (option_map (λ x. x.now) self.now.0.bytes) w (answer_of a)) (W.Write.contents writers.entry.out.now) (W.Write.contents writers.exit.0.now) (P.Write.contents writers.entry.progress.now) (P.Write.contents writers.exit.1.0.now)) }
+        ensures begun { OnErr result (Writes
+            (CheckBegun model.now.name model.now.file.path.now
+            (option_map (λ x. x.now) model.now.file.bytes)
+            (option_map (λ x. x.now) self.now.0.bytes))
+            (W.Write.contents writers.entry.out.now) (W.Write.contents writers.exit.0.now)
+            (P.Write.contents writers.entry.progress.now)
+            (P.Write.contents writers.exit.1.0.now)) }
     {
         match model.find(heap)? {
             Ok(Found::Tables(tables)) => self.on(heap, &tables, writers),

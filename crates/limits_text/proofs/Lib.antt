@@ -5,3 +5,4 @@ pub mod Printable
 pub mod Outcomes
 pub mod Answering
 pub mod Reporting
+pub mod Writing

@@ -1,5 +1,6 @@
 -- What is written of a list of limits, line by line.
-use Rattle.std.specs.Prelude.{◌≡◌, ℕ, ◌+◌, Bool, true, false, cond, List, [], ◌∷◌, ◌++◌, length, count_by, codes, decimal, Option, option_to_list, nat_lt}
+use Rattle.std.specs.Prelude.{◌≡◌, ℕ, ◌+◌, ◌⊎◌, Bool, true, false, cond, List, [], ◌∷◌, ◌++◌, length, count_by, codes, decimal, Option, option_to_list, nat_lt}
+use Rattle.std.specs.Io.{StartsWith}
 use Rattle.std.specs.Io.KnownBytes.{Appends}
 use Rattle.model.specs.Mdp.{Mdp}
 use Rattle.text.specs.Cuts.{pieces}
@@ -75,6 +76,41 @@ pub record Writes (says : Written → Type 0) (o o' p p' : Option (List ℕ)) : 
   pub said : says written
   pub out : Appends o o' written.reports
   pub progress : Appends p p' written.progress
+
+-- known bytes grow by a beginning of the text
+pub record AppendsFront (old new : Option (List ℕ)) (text : List ℕ) : Type 0 where
+  pub front : List ℕ
+  pub begins : StartsWith text front
+  pub appended : Appends old new front
+
+-- the bytes begin the report of line k
+pub record BeginsReport (m : Mdp) (k : ℕ) (line bytes : List ℕ) : Type 0 where
+  pub report : List ℕ
+  pub outcome : Option Outcome
+  pub answer : LineAnswer m k line report outcome
+  pub begins : StartsWith report bytes
+
+-- a beginning of the report of line k was written to a writer, or nothing
+pub record LineTorn (m : Mdp) (k : ℕ) (line : List ℕ) (o o' : Option (List ℕ)) : Type 0 where
+  pub bytes : List ℕ
+  pub said : (bytes ≡ []) ⊎ BeginsReport m k line bytes
+  pub out : Appends o o' bytes
+
+-- a beginning of what is written of line k, where i formulas of n came before it: of what is told before it, or else all of
+-- that and a beginning of its report
+pub record LineBegun (m : Mdp) (n i k : ℕ) (line : List ℕ) (w : Written) : Type 0 where
+  pub told : StartsWith (progress_before (i + 1) n line) w.progress
+  pub said : (w.reports ≡ []) ⊎ ((w.progress ≡ progress_before (i + 1) n line) × BeginsReport m k line w.reports)
+  pub outcomes : w.outcomes ≡ []
+
+-- a beginning of what is written of the lines from number k on: of the first, or all of the first and a beginning of the rest
+abbrev pub LinesBegun : Mdp → ℕ → ℕ → ℕ → List (List ℕ) → Written → Type 0
+LinesBegun m n i k [] w = w ≡ nothing
+LinesBegun m n i k (l ∷ ls) w = LineBegun m n i k l w ⊎ ((first : Written) × (rest : Written) × LineWritten m n i k l first × LinesBegun m n (i + length first.outcomes) (k + 1) ls rest × (w ≡ and_more first rest))
+
+-- a beginning of what is written of a list: the reports of lines from the first on, and a beginning of the next
+abbrev pub ListBegun : Mdp → List ℕ → Written → Type 0
+ListBegun m list w = LinesBegun m (formula_count list) 0 1 (list_lines list) w
 
 -- a line was reported to a writer
 pub record LineReported (m : Mdp) (k : ℕ) (line : List ℕ) (o o' : Option (List ℕ)) (outcome : Option Outcome) : Type 0 where

@@ -9,3 +9,4 @@ pub mod outcome;
 pub mod report;
 pub mod summary;
 mod table;
+mod write;

@@ -3,7 +3,8 @@ use Rattle.std.proofs.lemmas.List.{length-map, get_or-map, map-id}
 use Rattle.std.proofs.lemmas.Iterator.Adapters.{fact_from_extend, YieldsList-from_once}
 use Rattle.limits_text.specs.declared.outcome.Outcome.{Outcome}
 use Rattle.limits_text.specs.Lists.{is_formula, list_lines}
-use Rattle.limits_text.proofs.Reporting.{reported_none, reported_more, reported_all}
+use Rattle.limits_text.proofs.Writing.{after_error}
+use Rattle.limits_text.proofs.Reporting.{reported_none, reported_more, reported_all, torn_first, torn_told, torn_report, torn_kept, begun_of_list}
 use Rattle.limits_text.proofs.list.report_list.Goals as goal
 
 -- no line is reported
@@ -19,14 +20,57 @@ loop-index-preserved g c =
     let outcomes = c.loop-index.outcomes.items in
     let outcome = c.in_ok-outcome.outcome in
     let kept : c.extend.new.self.items ≡ outcomes ++ option_to_list outcome = fact_from_extend {E = ℕ} (λ o. o) (Ok tt) c.in_ok-extend.ensures.ran (λ it b. YieldsList-from_once outcome b.0) (λ xs e h. h.0 ∙ ap (λ (os : List Outcome). outcomes ++ os) (sym (map-id xs) ∙ e)) in
-    reported_more _ _ _ k _ _ _ _ _ c.loop-index.invariant _ within (sym (get_or-map (λ p. p.now) lines k _ _ c.loop-index-test.true)) _ _ _ _ _ (c.len.ensures ∙ c.loop-index.outcomes.ok.0) c.in_ok-tell_line.ensures c.in_ok-outcome.ensures kept
+    reported_more _ _ _ k _ _ _ _ _ c.loop-index.invariant _ within (sym (get_or-map (λ p. p.now) lines k _ _ c.loop-index-test.true)) _ _ _ _ _ (c.len.ensures ∙ c.loop-index.outcomes.ok.0) c.in_ok-tell_line.ensures.whole c.in_ok-outcome.ensures.whole kept
 
 -- all lines are
-pub returns : goal.returns
-returns g c =
+pub returns-clause-whole : goal.returns-clause-whole
+returns-clause-whole g c =
     let lines = c.deref-line-items.result.now in
     let all : map (λ p. p.now) lines ≡ list_lines c.args.list.now = ap (map (λ p. p.now)) c.deref-line-items.ensures.value ∙ c.in_ok-lines.ensures in
     let formulas : c.formula_count-formulas.result ≡ count_by is_formula (map (λ p. p.now) lines) =
     c.formula_count-formulas.ensures ∙ ap (λ l. count_by is_formula (map (λ p. p.now) l)) (c.as_slice.ensures.value ∙ sym c.deref-line-items.ensures.value) in
     let past : length (map (λ p. p.now) lines) ≤ c.loop-index.index = omega (arith, length-map lines (λ p. p.now), c.loop-index-test.false) in
     reported_all _ c.args.list.now _ _ _ _ _ _ _ _ all formulas c.loop-index.invariant past
+
+-- nothing is written where there is no memory for the lines
+pub returns-in_err-lines-clause-begun : goal.returns-in_err-lines-clause-begun
+returns-in_err-lines-clause-begun g c = after_error c.from_residual.result (torn_first _ c.args.list.now _ _)
+
+-- an error came while a line was told of
+pub returns-in_err-tell_line-clause-begun : goal.returns-in_err-tell_line-clause-begun
+returns-in_err-tell_line-clause-begun g c =
+    let lines = c.deref-line-items.result.now in
+    let k = c.loop-index.index in
+    let all : map (λ p. p.now) lines ≡ list_lines c.args.list.now = ap (map (λ p. p.now)) c.deref-line-items.ensures.value ∙ c.in_ok-lines.ensures in
+    let formulas : c.formula_count-formulas.result ≡ count_by is_formula (map (λ p. p.now) lines) =
+    c.formula_count-formulas.ensures ∙ ap (λ l. count_by is_formula (map (λ p. p.now) l)) (c.as_slice.ensures.value ∙ sym c.deref-line-items.ensures.value) in
+    let within : k < length (map (λ p. p.now) lines) = omega (arith, length-map lines (λ p. p.now), c.loop-index-test.true) in
+    after_error c.from_residual-in_err-tell_line.result
+    (begun_of_list _ c.args.list.now _ _ _ _ _ _ all formulas
+    (torn_told _ _ _ k _ _ _ _ _ c.loop-index.invariant _ within (sym (get_or-map (λ p. p.now) lines k _ _ c.loop-index-test.true)) _ _ (c.len.ensures ∙ c.loop-index.outcomes.ok.0) c.in_err-tell_line.ensures.front))
+
+-- or while its report was made or written
+pub returns-in_err-outcome-clause-begun : goal.returns-in_err-outcome-clause-begun
+returns-in_err-outcome-clause-begun g c =
+    let lines = c.deref-line-items.result.now in
+    let k = c.loop-index.index in
+    let all : map (λ p. p.now) lines ≡ list_lines c.args.list.now = ap (map (λ p. p.now)) c.deref-line-items.ensures.value ∙ c.in_ok-lines.ensures in
+    let formulas : c.formula_count-formulas.result ≡ count_by is_formula (map (λ p. p.now) lines) =
+    c.formula_count-formulas.ensures ∙ ap (λ l. count_by is_formula (map (λ p. p.now) l)) (c.as_slice.ensures.value ∙ sym c.deref-line-items.ensures.value) in
+    let within : k < length (map (λ p. p.now) lines) = omega (arith, length-map lines (λ p. p.now), c.loop-index-test.true) in
+    after_error c.from_residual-in_err-outcome.result
+    (begun_of_list _ c.args.list.now _ _ _ _ _ _ all formulas
+    (torn_report _ _ _ k _ _ _ _ _ c.loop-index.invariant _ within (sym (get_or-map (λ p. p.now) lines k _ _ c.loop-index-test.true)) _ _ _ (c.len.ensures ∙ c.loop-index.outcomes.ok.0) c.in_ok-tell_line.ensures.whole c.in_err-outcome.ensures.torn))
+
+-- or when it was reported, for want of memory for its outcome
+pub returns-in_err-extend-clause-begun : goal.returns-in_err-extend-clause-begun
+returns-in_err-extend-clause-begun g c =
+    let lines = c.deref-line-items.result.now in
+    let k = c.loop-index.index in
+    let all : map (λ p. p.now) lines ≡ list_lines c.args.list.now = ap (map (λ p. p.now)) c.deref-line-items.ensures.value ∙ c.in_ok-lines.ensures in
+    let formulas : c.formula_count-formulas.result ≡ count_by is_formula (map (λ p. p.now) lines) =
+    c.formula_count-formulas.ensures ∙ ap (λ l. count_by is_formula (map (λ p. p.now) l)) (c.as_slice.ensures.value ∙ sym c.deref-line-items.ensures.value) in
+    let within : k < length (map (λ p. p.now) lines) = omega (arith, length-map lines (λ p. p.now), c.loop-index-test.true) in
+    after_error c.from_residual-in_err-extend.result
+    (begun_of_list _ c.args.list.now _ _ _ _ _ _ all formulas
+    (torn_kept _ _ _ k _ _ _ _ _ c.loop-index.invariant _ within (sym (get_or-map (λ p. p.now) lines k _ _ c.loop-index-test.true)) _ _ _ _ (c.len.ensures ∙ c.loop-index.outcomes.ok.0) c.in_ok-tell_line.ensures.whole c.in_ok-outcome.ensures.whole))
