@@ -1,15 +1,12 @@
 -- What the replay of a list of calls promises.
-use Rattle.std.specs.Prelude.{◌≡◌, ℕ, ◌<◌, ◌≤◌, List, length, take, slice_get, Some, Ok, Option}
-use Rattle.std.specs.List.{Contains}
+use Rattle.std.specs.Prelude.{◌≡◌, ℕ, ◌<◌, ◌≤◌, List, length, take, slice_get, Some, Option, IfSome, IfOk}
 use Rattle.model.specs.Mdp.{Mdp}
 use Rattle.theory.specs.Mixes.{whole}
 use Rattle.theory.specs.Formulas.{Formula}
-use Rattle.theory.specs.Found.{JudgedRightly}
-use Rattle.grammar.specs.Spelling.{print}
-use Rattle.formula.specs.Records.{parts}
 use Rattle.trial.specs.Queries.{Query, lower_end, upper_end, Bounds}
-use Rattle.trial.specs.Answers.{answer, start_fault, advance_fault, ends_answer, verdict_answer, VerdictMeans}
+use Rattle.trial.specs.Answers.{answer, start_fault, advance_fault, ends_answer, verdict_answer}
 use Rattle.trial.specs.Judging.{lent, JudgeResult}
+use Rattle.trial.specs.Meanings.{EndsMean, VerdictMeans, JudgeMeans, HasOneSet}
 use Rattle.replay.specs.declared.call.Call.{Call}
 use Rattle.replay.specs.declared.call.Call.TheVariants.{Start, Advance, Ends, Verdict, Judge}
 use Rattle.replay.specs.Standing.{Stands}
@@ -25,10 +22,14 @@ Played m o (Judge text records scratch out a) (Judge text' records' scratch' out
     JudgeResult m text.items (lent records.items scratch.items out.items) (lent records'.items scratch'.items out'.items) r
 Played m o (Judge text records scratch out a) after = ⊥
 
--- what the answer of a call means: a verdict is right for all adversaries, and every part of a judged formula is judged rightly
+-- what the answer of a call means, unless it is a refusal: the ends bound all adversaries, the verdict is right for all of them, and
+-- each byte that a judge left in a row means what it says
 abbrev pub Means : Mdp → Option Query → Call → Type 0
-Means m o (Verdict state comparison bound a) = VerdictMeans m o state comparison bound
-Means m o (Judge text records scratch out (Some (Ok n))) = (f : Formula) → text.items ≡ print f → (p : Formula) → Contains (parts f) p → JudgedRightly m p
+Means m o (Ends state a) = IfSome a (λ r. IfOk r (EndsMean m o state))
+Means m o (Verdict state comparison bound a) =
+    IfSome a (λ r. IfOk r (VerdictMeans m o state comparison bound))
+Means m o (Judge text records scratch out a) =
+    IfSome a (λ r. IfOk r (JudgeMeans m text.items (lent records.items scratch.items out.items)))
 Means m o c = Unit {0}
 
 -- the pair of a query at a state: both ends are parts of the whole, and they bound all adversaries
@@ -44,11 +45,12 @@ pub record OneStands (calls : List Call) : Type 0 where
   pub only : (other : Option Query) → Stands calls other → other ≡ query
 
 -- the calls before were played in turn, from no query on, over a source of the model m, and are now those after: there are as many;
--- at each point one query stands or none; each call was made where that stood, and its answer means what it says; and at each point
--- the pair of the query that stands bounds all adversaries at every state
+-- at each point one query stands or none; each call was made where that stood, and its answer means what it says; at each point
+-- the pair of the query that stands bounds all adversaries at every state; and every formula has exactly one set of states
 pub record Replayed (m : Mdp) (before after : List Call) : Type 0 where
   pub number : length after ≡ length before
   pub one_query : (i : ℕ) → i ≤ length after → OneStands (take i after)
   pub played : (i : ℕ) (o : Option Query) → Stands (take i after) o → (c d : Call) → slice_get before i ≡ Some c → slice_get after i ≡ Some d → Played m o c d
   pub meant : (i : ℕ) (o : Option Query) → Stands (take i after) o → (d : Call) → slice_get after i ≡ Some d → Means m o d
   pub pairs : (i : ℕ) (q : Query) → Stands (take i after) (Some q) → (s : ℕ) → s < m.states → Pair m q s
+  pub one_set : (f : Formula) → HasOneSet m f

@@ -76,7 +76,7 @@ module _ (m : Mdp) where
   rows_length (f ∷ fs) = length-append (row_of m f) (rows_of m fs) ∙ rw (row_length f, rows_length fs) (omega arith)
 
   -- a row that stands after i rows is the one with the number i
-  row_after : (before row behind : List ℕ) (i : ℕ) → length before ≡ i * m.states → length row ≡ m.states → row_at m.states (before ++ (row ++ behind)) i ≡ row
+  pub row_after : (before row behind : List ℕ) (i : ℕ) → length before ≡ i * m.states → length row ≡ m.states → row_at m.states (before ++ (row ++ behind)) i ≡ row
   row_after before row behind i e n =
       rw (sym e, drop-append_seam before (row ++ behind), sym n) (take-append_seam row behind)
 

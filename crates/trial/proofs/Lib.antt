@@ -8,3 +8,4 @@ pub mod SettledMarks
 pub mod FormulaRows
 pub mod Evaluation
 pub mod Judging
+pub mod Meanings

@@ -1,12 +1,11 @@
 -- The query that a trial keeps: its ends after more rounds, what they mean, and how the query is told by the fields.
-use Rattle.std.proofs.Common.{◌≡◌, ℕ, zero, suc, ◌+◌, ◌<◌, ◌≤◌, Bool, true, ltb, leb, List, map, get_or, Some, None, Ok, Option, Result, sym, refl, ap, ◌∙◌, subst, inl, inr, add-zero, add-suc, arith}
+use Rattle.std.proofs.Common.{◌≡◌, ℕ, zero, suc, ◌+◌, ◌<◌, ◌≤◌, Bool, true, ltb, leb, List, map, get_or, Some, Ok, Option, Result, sym, refl, ap, ◌∙◌, subst, inl, inr, add-zero, add-suc, arith}
 use Rattle.std.proofs.lemmas.Bool.{cond-true, cond-false, le-leb, lt-ltb, ltb-true, cases_Bool}
 use Rattle.model.specs.Mdp.{Mdp, Lawful}
 use Rattle.theory.specs.Rounds.{round, rounds}
 use Rattle.theory.specs.Mixes.{whole}
 use Rattle.theory.proofs.Bridge.{rounds_same}
 use Rattle.theory.proofs.Ends.{ends_bound}
-use Rattle.theory.proofs.Near.{queries_correct}
 use Rattle.rules.specs.declared.part.Part.{Part}
 use Rattle.rules.specs.declared.preference.Preference.{Preference}
 use Rattle.rules.specs.declared.rounding.Rounding.{Rounding}
@@ -23,7 +22,7 @@ use Rattle.trial.specs.Aims.{aim_for}
 use Rattle.trial.specs.VerdictBytes.{read_verdict}
 use Rattle.trial.specs.declared.state.QueryState.{QueryState}
 use Rattle.trial.specs.Queries.{Query, marked, lower_end, upper_end, BoundsFor}
-use Rattle.trial.specs.Answers.{ends_answer, same_aim, verdict_answer, EndsMean, VerdictMeans}
+use Rattle.trial.specs.Answers.{ends_answer, same_aim, verdict_answer}
 use Rattle.trial.specs.Keeping.{query_in, Keeps, Kept}
 
 -- k rounds after j rounds are j + k rounds
@@ -51,19 +50,9 @@ module _ (m : Mdp) (flags : List Bool) (t : QueryState) where
 
 module _ (m : Mdp) (l : Lawful m) where
   -- what the ends of a query mean for all adversaries
-  bounds_for : (a : Aim) (q : Query) (s : ℕ) → s < m.states → BoundsFor a m q s
+  pub bounds_for : (a : Aim) (q : Query) (s : ℕ) → s < m.states → BoundsFor a m q s
   bounds_for Best q s h = (ends_bound (marked q.left) (marked q.right) m l q.rounds s h).0
   bounds_for Worst q s h = (ends_bound (marked q.left) (marked q.right) m l q.rounds s h).1
-
-  -- wherever a query stands
-  pub ends_mean : (o : Option Query) (s : ℕ) → EndsMean m o s
-  ends_mean None s = tt
-  ends_mean (Some q) s = λ h. bounds_for q.aim q s h
-
-  -- what a verdict means, wherever a query stands
-  pub verdict_means : (o : Option Query) (s : ℕ) (c : Comparison) (b : ℕ) → VerdictMeans m o s c b
-  verdict_means None s c b = tt
-  verdict_means (Some q) s c b = λ h e. queries_correct (meant c) b q.rounds (marked q.left) (marked q.right) m l s h
 
 -- both ends of the query at a state are what is answered there
 pub ends_answered : (m : Mdp) (o : Option Query) (q : Query) → o ≡ Some q → (s : ℕ) → s < m.states → (lo hi : Part) → units_of lo ≡ lower_end m q s → units_of hi ≡ upper_end m q s →

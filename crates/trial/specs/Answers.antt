@@ -1,9 +1,8 @@
 -- What each call on a trial answers, and which query stands afterwards: functions of the model, of the query that stood, and of what
 -- the call is given.
-use Rattle.std.specs.Prelude.{◌≡◌, ℕ, ◌+◌, ◌<◌, Bool, true, false, cond, ◌&&◌, ◌||◌, List, [], ◌∷◌, length, Some, None, Ok, Err, Option, Result, ◌==◌, nat_le, nat_lt}
+use Rattle.std.specs.Prelude.{ℕ, ◌+◌, Bool, true, false, cond, ◌&&◌, ◌||◌, List, [], ◌∷◌, length, Some, None, Ok, Err, Option, Result, ◌==◌, nat_le, nat_lt}
 use Rattle.model.specs.Mdp.{Mdp}
 use Rattle.theory.specs.Mixes.{whole}
-use Rattle.theory.specs.Distances.{QueryVerdict}
 use Rattle.rules.specs.declared.part.Part.{Part}
 use Rattle.rules.specs.Parts.{part_of}
 use Rattle.rounds.specs.Refusals.{most_rounds}
@@ -16,7 +15,7 @@ use Rattle.trial.specs.declared.fault.TrialFault.TheVariants as fault
 use Rattle.trial.specs.declared.verdict.Verdict.{Verdict}
 use Rattle.trial.specs.Aims.{aim_for}
 use Rattle.trial.specs.VerdictBytes.{read_verdict}
-use Rattle.trial.specs.Queries.{Query, marked, lower_end, upper_end, Bounds}
+use Rattle.trial.specs.Queries.{Query, lower_end, upper_end}
 
 -- is every byte 0 or 1?
 abbrev pub all_marks : List ℕ → Bool
@@ -73,13 +72,3 @@ abbrev pub verdict_answer : Mdp → Option Query → ℕ → Comparison → ℕ 
 verdict_answer m None s c b = Err fault.NoQuery
 verdict_answer m (Some q) s c b =
     cond (nat_lt s m.states) (cond (nat_le b whole) (cond (same_aim (aim_for c) q.aim) (Ok (read_verdict (meant c) b (lower_end m q s) (upper_end m q s))) (Err fault.Aim)) (Err fault.Bound)) (Err fault.State)
-
--- what the ends mean, wherever a query stands: they bound every adversary of the model
-abbrev pub EndsMean : Mdp → Option Query → ℕ → Type 0
-EndsMean m None s = Unit {0}
-EndsMean m (Some q) s = s < m.states → Bounds m q s
-
--- what a verdict means, wherever a query stands that asks for what the comparison is decided by
-abbrev pub VerdictMeans : Mdp → Option Query → ℕ → Comparison → ℕ → Type 0
-VerdictMeans m None s c b = Unit {0}
-VerdictMeans m (Some q) s c b = s < m.states → same_aim (aim_for c) q.aim ≡ true → QueryVerdict (meant c) b q.rounds (marked q.left) (marked q.right) m s

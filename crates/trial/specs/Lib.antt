@@ -10,3 +10,4 @@ pub mod Judging
 pub mod Evaluation
 pub mod PathEnds
 pub mod JudgedEnds
+pub mod Meanings

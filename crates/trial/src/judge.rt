@@ -1,11 +1,11 @@
-ghost use Rattle.std.specs.Prelude.{◌≡◌, ◌*◌, List, [], length, Some, ◌==◌};
+ghost use Rattle.std.specs.Prelude.{◌≡◌, ◌*◌, List, [], length, Some, ◌==◌, IfOk};
 ghost use Rattle.std.specs.List.{count_by};
 ghost use Rattle.theory.specs.Formulas.{Formula};
 ghost use Rattle.records.specs.declared.comparison.Comparison.{Comparison as Code};
-ghost use Rattle.theory.specs.Found.{JudgedRightly};
 ghost use Rattle.trial.specs.Judging.{counted_each, rows_of, lent, JudgeResult};
 ghost use Rattle.trial.specs.PathEnds.{Told, ends_of_last};
 ghost use Rattle.trial.specs.JudgedEnds.{records_of, EndsTold};
+ghost use Rattle.trial.specs.Meanings.{JudgeMeans, HasOneSet};
 ghost use Rattle.trial.specs.VerdictBytes.{verdict_number};
 ghost use Rattle.trial.specs.Evaluation.{row_at, HasRow, Needs, row_by, ends_by, Chained};
 
@@ -157,7 +157,9 @@ pub fn judge_with_ends<S: Source>(
 ) -> Result<Judged, JudgeFault>
     ensures answer { JudgeResult (S.Source.model source.now) text.now (lent records.old scratch.old out.old) (lent records.new scratch.new out.new) (records_of result) }
     ensures ends { EndsTold (S.Source.model source.now) text.now result }
-    ensures meaning { (f : Formula) → JudgedRightly (S.Source.model source.now) f }
+    ensures meaning { IfOk (records_of result) (JudgeMeans (S.model source.now) text.now
+        (lent records.new scratch.new out.new)) }
+    ensures one_set { (f : Formula) → HasOneSet (S.model source.now) f }
 {
     let states = source.states();
     let count = record_count(text, records.len())?;

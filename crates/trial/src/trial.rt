@@ -1,11 +1,11 @@
-ghost use Rattle.std.specs.Prelude.{◌≡◌, None, Err};
+ghost use Rattle.std.specs.Prelude.{◌≡◌, None, Err, IfOk};
 ghost use Rattle.trial.specs.declared.fault.TrialFault.{TrialFault as Faults};
 ghost use Rattle.records.specs.declared.fault.JudgeFault.{JudgeFault as JudgeFaults};
 ghost use Rattle.theory.specs.Formulas.{Formula};
-ghost use Rattle.theory.specs.Found.{JudgedRightly};
 ghost use Rattle.trial.specs.Judging.{lent, JudgeResult, query_after};
 ghost use Rattle.trial.specs.Keeping.{standing, Kept};
-ghost use Rattle.trial.specs.Answers.{answer, start_fault, started, advance_fault, advanced, ends_answer, verdict_answer, EndsMean, VerdictMeans};
+ghost use Rattle.trial.specs.Answers.{answer, start_fault, started, advance_fault, advanced, ends_answer, verdict_answer};
+ghost use Rattle.trial.specs.Meanings.{EndsMean, VerdictMeans, JudgeMeans, HasOneSet};
 
 use crate::aim::Aim;
 use crate::ends::advanced_ends;
@@ -84,7 +84,8 @@ impl<'a, S: Source> Trial<'a, S> {
     // the project.
     pub fn ends(&self, state: usize) -> Result<(Part, Part, u64), TrialFault>
         ensures answer { result ≡ ends_answer (S.Source.model self.now.layer.below.now) (standing (S.Source.model self.now.layer.below.now).states self.now.query) state }
-        ensures meaning { EndsMean (S.Source.model self.now.layer.below.now) (standing (S.Source.model self.now.layer.below.now).states self.now.query) state }
+        ensures meaning { IfOk result (EndsMean (S.model self.now.layer.below.now)
+            (standing (S.model self.now.layer.below.now).states self.now.query) state) }
     {
         let query = self.query.as_ref().ok_or(TrialFault::NoQuery)?;
         if state >= self.layer.states() {
@@ -103,7 +104,9 @@ impl<'a, S: Source> Trial<'a, S> {
         bound: u64,
     ) -> Result<Verdict, TrialFault>
         ensures answer { result ≡ verdict_answer (S.Source.model self.now.layer.below.now) (standing (S.Source.model self.now.layer.below.now).states self.now.query) state comparison bound }
-        ensures meaning { VerdictMeans (S.Source.model self.now.layer.below.now) (standing (S.Source.model self.now.layer.below.now).states self.now.query) state comparison bound }
+        ensures meaning { IfOk result (VerdictMeans (S.model self.now.layer.below.now)
+            (standing (S.model self.now.layer.below.now).states self.now.query)
+            state comparison bound) }
     {
         let query = self.query.as_ref().ok_or(TrialFault::NoQuery)?;
         let (lower, upper, _) = self.ends(state)?;
@@ -129,7 +132,9 @@ impl<'a, S: Source> Trial<'a, S> {
         ensures query { standing (S.Source.model self.new.layer.below.now).states self.new.query ≡ query_after result (standing (S.Source.model self.old.layer.below.now).states self.old.query) }
         ensures source { self.new.layer.below.now ≡ self.old.layer.below.now }
         ensures refused { (e : JudgeFaults) → result ≡ Err e → self.new ≡ self.old }
-        ensures meaning { (f : Formula) → JudgedRightly (S.Source.model self.new.layer.below.now) f }
+        ensures meaning { IfOk result (JudgeMeans (S.model self.old.layer.below.now) text.now
+            (lent records.new scratch.new out.new)) }
+        ensures one_set { (f : Formula) → HasOneSet (S.model self.old.layer.below.now) f }
     {
         let source = *self.layer.below();
         let judged = judge_with_ends(source, text, records, scratch, out)?;

@@ -18,7 +18,7 @@ loop-call-preserved g c =
     record {
       source = cc;
       stands = rw (take_more_set c.loop-call.calls c.loop-call.call-index c.play.new.self there) (c.play.ensures.query _ c.loop-call.invariant.stands);
-      played = played_more _ _ _ _ _ _ c.call-item.result _ there (ap g.S.Source.model c.loop-call.invariant.source) c.loop-call.invariant.played c.loop-call.invariant.stands c.play.ensures.played;
+      played = played_more _ _ _ _ _ _ c.call-item.result _ there (ap g.S.Source.model c.loop-call.invariant.source) c.loop-call.invariant.played c.loop-call.invariant.stands c.play.ensures.played c.play.ensures.meant;
     }
 
 pub returns : goal.returns

@@ -1,5 +1,5 @@
 use Rattle.std.proofs.Common.{◌≡◌, ◌-◌, ◌*◌, ◌++◌, drop, sym, refl, ap, ◌∙◌, subst, arith}
-use Rattle.theory.proofs.Judged.{all_judged_rightly}
+use Rattle.theory.proofs.Near.{one_set}
 use Rattle.grammar.proofs.Readings.{one_reading}
 use Rattle.formula.specs.Records.{size, parts}
 use Rattle.trial.specs.Judging.{lent, Accepted}
@@ -7,10 +7,11 @@ use Rattle.trial.specs.Evaluation.{row_at, HasRow}
 use Rattle.trial.specs.PathEnds.{ends_of, ends_of_last, Told}
 use Rattle.trial.proofs.Evaluation.{parts_before, parts_last, ends_last}
 use Rattle.trial.proofs.Judging.{some_part, reads, read_twice, last_there, filled_chained, accepted}
+use Rattle.trial.proofs.Meanings.{judge_means}
 use Rattle.trial.proofs.judge.judge_with_ends.Goals as goal
 
-pub returns-in_err-count-clause-meaning : goal.returns-in_err-count-clause-meaning
-returns-in_err-count-clause-meaning g c = all_judged_rightly (g.S.Source.model c.args.source.now) (g.S.Source.lawful c.args.source.now)
+pub returns-in_err-count-clause-one_set : goal.returns-in_err-count-clause-one_set
+returns-in_err-count-clause-one_set g c = one_set (g.S.Source.model c.args.source.now) (g.S.Source.lawful c.args.source.now)
 
 pub returns-then-scratch-count : goal.returns-then-scratch-count
 returns-then-scratch-count g c =
@@ -22,7 +23,8 @@ returns-then-scratch-count g c =
     record {
       answer = ((a.formula, reads _ _ left _ counted.0 a, omega (arith, bytes, short)), refl);
       ends = tt;
-      meaning = all_judged_rightly m (g.S.Source.lawful c.args.source.now);
+      meaning = tt;
+      one_set = one_set m (g.S.Source.lawful c.args.source.now);
     }
 
 pub returns-then-out-states : goal.returns-then-out-states
@@ -36,11 +38,12 @@ returns-then-out-states g c =
     record {
       answer = ((a.formula, reads _ _ left _ counted.0 a, omega (arith, bytes, long), λ e. other (e ∙ sym c.states-states.ensures)), refl);
       ends = tt;
-      meaning = all_judged_rightly m (g.S.Source.lawful c.args.source.now);
+      meaning = tt;
+      one_set = one_set m (g.S.Source.lawful c.args.source.now);
     }
 
-pub returns-in_err-read_formula-clause-meaning : goal.returns-in_err-read_formula-clause-meaning
-returns-in_err-read_formula-clause-meaning g c = all_judged_rightly (g.S.Source.model c.args.source.now) (g.S.Source.lawful c.args.source.now)
+pub returns-in_err-read_formula-clause-one_set : goal.returns-in_err-read_formula-clause-one_set
+returns-in_err-read_formula-clause-one_set g c = one_set (g.S.Source.model c.args.source.now) (g.S.Source.lawful c.args.source.now)
 
 pub evaluate-ends-requires-clause-chained : goal.evaluate-ends-requires-clause-chained
 evaluate-ends-requires-clause-chained g c =
@@ -75,16 +78,19 @@ returns g c =
     let twice = read_twice _ _ _ _ _ c.in_ok-count.ensures c.in_ok-read_formula.ensures.answer.1 in
     let bytes : c.in_ok-count.count * c.states-states.result ≡ size twice.formula * m.states = ap (λ k. k * c.states-states.result) twice.number ∙ ap (λ k. size twice.formula * k) states in
     let chain = filled_chained m l c.args.text.now b _ _ twice in
+    let judged =
+    subst (λ n. Accepted m c.args.text.now b (lent (c.evaluate-ends.new.records ++ drop c.in_ok-count.count c.read_formula.new.records) (c.evaluate-ends.new.scratch ++ drop (c.in_ok-count.count * n) c.args.scratch.now) c.copy_from_slice.new.self) c.in_ok-count.count) (sym states)
+    (accepted m l c.args.text.now b _ _ twice
+    c.evaluate-ends.new.records c.evaluate-ends.new.scratch c.copy_from_slice.new.self (omega (arith, bytes, enough)) (let h = c.if-out-states.false in omega (arith, h, states))
+    (c.evaluate-ends.ensures.counts (parts twice.formula) chain) (c.evaluate-ends.ensures.rows (parts twice.formula) chain)
+    (c.copy_from_slice.ensures.after ∙ c.of.ensures.row ∙ ap (λ n. row_at n (c.evaluate-ends.new.scratch ++ drop (c.in_ok-count.count * n) c.args.scratch.now) (c.in_ok-count.count - 1)) states))
+    in
     record {
-      answer =
-          subst (λ n. Accepted m c.args.text.now b (lent (c.evaluate-ends.new.records ++ drop c.in_ok-count.count c.read_formula.new.records) (c.evaluate-ends.new.scratch ++ drop (c.in_ok-count.count * n) c.args.scratch.now) c.copy_from_slice.new.self) c.in_ok-count.count) (sym states)
-          (accepted m l c.args.text.now b _ _ twice
-          c.evaluate-ends.new.records c.evaluate-ends.new.scratch c.copy_from_slice.new.self (omega (arith, bytes, enough)) (let h = c.if-out-states.false in omega (arith, h, states))
-          (c.evaluate-ends.ensures.counts (parts twice.formula) chain) (c.evaluate-ends.ensures.rows (parts twice.formula) chain)
-          (c.copy_from_slice.ensures.after ∙ c.of.ensures.row ∙ ap (λ n. row_at n (c.evaluate-ends.new.scratch ++ drop (c.in_ok-count.count * n) c.args.scratch.now) (c.in_ok-count.count - 1)) states));
+      answer = judged;
       ends = λ f spelled spells.
           subst (λ z. Told m.states z c.evaluate-ends.result)
           (ap (ends_of_last m) (parts_last twice.formula) ∙ ends_last m (parts_before twice.formula) twice.formula ∙ ap (ends_of m) (one_reading twice.formula f twice.reads.spelled spelled (sym twice.reads.spells ∙ spells)))
           (c.evaluate-ends.ensures.ends (parts twice.formula) chain);
-      meaning = all_judged_rightly m l;
+      meaning = judge_means m l _ _ _ _ judged;
+      one_set = one_set m l;
     }

@@ -1,0 +1,149 @@
+-- What the answers of a trial mean for all adversaries of the source's model: said of the values that are answered, and of the
+-- bytes and records that are left in the buffers.
+use Rattle.std.specs.Prelude.{◌≡◌, ◌≢◌, ℕ, ◌-◌, ◌*◌, ◌^◌, ◌<◌, ◌≤◌, Bool, List, All, length, Some, Option, IsSomeAnd, ◌==◌, slice_get, slice_index}
+use Rattle.std.specs.List.{count_by}
+use Rattle.model.specs.Mdp.{Mdp}
+use Rattle.theory.specs.Adversaries.{Adversary, Allowed}
+use Rattle.theory.specs.Tallies.{tally, next_tally}
+use Rattle.theory.specs.Mixes.{whole}
+use Rattle.theory.specs.Ends.{Close}
+use Rattle.theory.specs.Formulas.{Comparison, Formula, truth, label, negation, conjunction, probability, next, until_within, until, Fits, SetOf, Holds}
+use Rattle.theory.specs.Verdicts.{VerdictSets, Judged}
+use Rattle.theory.specs.Distances.{StateValue, WithinUnits, Undecided}
+use Rattle.grammar.specs.Spelling.{print, Spelled}
+use Rattle.rules.specs.declared.part.Part.{Part}
+use Rattle.rules.specs.Parts.{units_of}
+use Rattle.records.specs.declared.comparison.Comparison.{Comparison as Code}
+use Rattle.records.specs.declared.record.Record.{Record}
+use Rattle.formula.specs.Records.{parts}
+use Rattle.formula.specs.Tokens.{meant}
+use Rattle.trial.specs.declared.aim.Aim.{Aim}
+use Rattle.trial.specs.declared.aim.Aim.TheVariants.{Best, Worst}
+use Rattle.trial.specs.declared.verdict.Verdict.{Verdict}
+use Rattle.trial.specs.declared.verdict.Verdict.TheVariants as verdict
+use Rattle.trial.specs.Queries.{Query, marked}
+use Rattle.trial.specs.Judging.{Buffers}
+use Rattle.trial.specs.Evaluation.{row_at}
+
+-- lo and hi, in units, bound the tallies of an until with j steps for the best: no allowed adversary's lies above hi, some allowed
+-- one's reaches lo, and hi lies at most j above lo
+-- a number of units x stands for x / whole and a tally t for t / D ^ j; they are compared without division
+pub record BoundBest (left right : ℕ → Bool) (m : Mdp) (j s lo hi : ℕ) : Type 0 where
+  pub none_above : (σ : Adversary) → Allowed m σ →
+      tally left right j m σ s * whole ≤ hi * m.denominator ^ j
+  pub some_reaches : (σ : Adversary) × Allowed m σ ×
+      (lo * m.denominator ^ j ≤ tally left right j m σ s * whole)
+  pub gap : Close j lo hi
+
+-- for the worst: no allowed adversary's lies below lo, some allowed one's is down at hi, and hi lies at most j above lo
+pub record BoundWorst (left right : ℕ → Bool) (m : Mdp) (j s lo hi : ℕ) : Type 0 where
+  pub none_below : (σ : Adversary) → Allowed m σ →
+      lo * m.denominator ^ j ≤ tally left right j m σ s * whole
+  pub some_reaches : (σ : Adversary) × Allowed m σ ×
+      (tally left right j m σ s * whole ≤ hi * m.denominator ^ j)
+  pub gap : Close j lo hi
+
+-- they bound the tallies for what is asked for
+abbrev pub BoundAll : Aim → (ℕ → Bool) → (ℕ → Bool) → Mdp → ℕ → ℕ → ℕ → ℕ → Type 0
+BoundAll Best left right m j s lo hi = BoundBest left right m j s lo hi
+BoundAll Worst left right m j s lo hi = BoundWorst left right m j s lo hi
+
+-- two parts and a number of rounds are the ends of a query at a state: the rounds are the query's, and the units of the parts
+-- bound the tallies of all adversaries over as many steps
+pub record AreEnds (m : Mdp) (q : Query) (s : ℕ) (lower upper : Part) (j : ℕ) : Type 0 where
+  pub rounds : j ≡ q.rounds
+  pub bound : BoundAll q.aim (marked q.left) (marked q.right) m j s
+      (units_of lower) (units_of upper)
+
+-- what answered ends mean: a query stands, and they are its ends
+abbrev pub EndsMean : Mdp → Option Query → ℕ → Part × Part × ℕ → Type 0
+EndsMean m o s r = IsSomeAnd o (λ q. AreEnds m q s r.0 r.1 r.2)
+
+-- the adversaries' tallies, out of `all`, have a value that the comparison is decided by, and it lies within u units of the bound b
+abbrev pub ValueWithin : ℕ → Comparison → ℕ → ℕ → Mdp → (Adversary → ℕ) → Type 0
+ValueWithin u c b all m tallied = (x : ℕ) × StateValue c m tallied x × WithinUnits u b all x
+
+-- what a verdict says of an until with j steps under a comparison and a bound b: a yes, that every allowed adversary's tally fits;
+-- a no, that some allowed one's does not; an undecided one, that the state's value lies within j units of the bound
+abbrev pub VerdictSays : Verdict → Comparison → ℕ → (ℕ → Bool) → (ℕ → Bool) → ℕ → Mdp → ℕ → Type 0
+VerdictSays verdict.Yes c b left right j m s =
+    (σ : Adversary) → Allowed m σ →
+    Fits c (tally left right j m σ s * whole) (b * m.denominator ^ j)
+VerdictSays verdict.No c b left right j m s = (σ : Adversary) × Allowed m σ ×
+    ¬ (Fits c (tally left right j m σ s * whole) (b * m.denominator ^ j))
+VerdictSays verdict.Undecided c b left right j m s =
+    ValueWithin j c b (m.denominator ^ j) m (λ σ. tally left right j m σ s)
+
+-- what an answered verdict means: a query stands, and this is so of its until with as many steps as it has had rounds
+abbrev pub VerdictMeans : Mdp → Option Query → ℕ → Code → ℕ → Verdict → Type 0
+VerdictMeans m o s c b v =
+    IsSomeAnd o (λ q. VerdictSays v (meant c) b (marked q.left) (marked q.right) q.rounds m s)
+
+-- a formula has exactly one set of states, so that what is said of each of its sets is said of one
+abbrev pub HasOneSet : Mdp → Formula → Type 0
+HasOneSet m f = (set : ℕ → Bool) × SetOf m (Holds m f) set ×
+    ((other : ℕ → Bool) → SetOf m (Holds m f) other → (s : ℕ) → s < m.states → other s ≡ set s)
+
+-- g is one of the formulas, and there is no 2 in its row; the rows of n bytes stand in the order of the formulas
+pub record DecidedRow (n : ℕ) (fs : List Formula) (rows : List ℕ) (g : Formula) : Type 0 where
+  pub number : ℕ
+  pub there : slice_get fs number ≡ Some g
+  pub decided : All (λ b. b ≢ 2) (row_at n rows number)
+
+-- what is known of a formula where it is undecided, if its parts have decided rows: it is a next, and its value lies within one
+-- unit of the bound, or an until with k steps, and its value lies within k units; no other formula is undecided then
+abbrev pub NearBound : Mdp → (Formula → Type 0) → Formula → ℕ → Type 0
+NearBound m HasDecided truth s = ⊥
+NearBound m HasDecided (label i) s = ⊥
+NearBound m HasDecided (negation f) s = HasDecided f → ⊥
+NearBound m HasDecided (conjunction f g) s = HasDecided f → HasDecided g → ⊥
+NearBound m HasDecided (probability c b (next f)) s =
+    HasDecided f → (set : ℕ → Bool) → SetOf m (Holds m f) set →
+    ValueWithin 1 c b (m.denominator ^ 1) m (λ σ. next_tally set m σ s)
+NearBound m HasDecided (probability c b (until_within k f g)) s =
+    HasDecided f → HasDecided g →
+    (left right : ℕ → Bool) → SetOf m (Holds m f) left → SetOf m (Holds m g) right →
+    ValueWithin k c b (m.denominator ^ k) m (λ σ. tally left right k m σ s)
+NearBound m HasDecided (probability c b (until f g)) s = HasDecided f → HasDecided g → ⊥
+
+-- the formula is undecided at the state, by the verdicts that it is judged by
+abbrev pub IsUndecided : Mdp → Formula → ℕ → Type 0
+IsUndecided m f s = (v : VerdictSets) × Judged m f v × Undecided v s
+
+-- what the byte of a formula at a state means: it is 0, 1 or 2; 1 only where the formula holds over all adversaries, 0 only where
+-- it does not hold, and 2 only where it is undecided, and near its bound if its parts have decided rows
+pub record ByteMeans (m : Mdp) (HasDecided : Formula → Type 0) (f : Formula) (s byte : ℕ)
+    : Type 0 where
+  pub one_of_three : byte ≤ 2
+  pub yes_holds : byte ≡ 1 → Holds m f s
+  pub no_fails : byte ≡ 0 → ¬ (Holds m f s)
+  pub undecided : byte ≡ 2 → IsUndecided m f s
+  pub near : byte ≡ 2 → NearBound m HasDecided f s
+
+-- what the row of a formula means: it has a byte for each state, and each byte means what it says
+pub record RowMeans (m : Mdp) (HasDecided : Formula → Type 0) (f : Formula) (row : List ℕ)
+    : Type 0 where
+  pub long : length row ≡ m.states
+  pub byte : (s : ℕ) → s < m.states → ByteMeans m HasDecided f s (slice_index row s)
+
+-- the record's counts are the numbers of the 1s and of the 2s in the row
+pub record HasCounts (row : List ℕ) (r : Record) : Type 0 where
+  pub yes : r.yes ≡ count_by (λ b. b == 1) row
+  pub undecided : r.undecided ≡ count_by (λ b. b == 2) row
+
+-- what an accepted judge of a text means, which answers n: the text spells exactly one formula; that has n parts and is the last of
+-- them; in the scratch the row with a part's number means what it says of that part, and the record with that number has its counts;
+-- and the output is the last row
+pub record JudgeMeans (m : Mdp) (text : List ℕ) (left : Buffers) (n : ℕ) : Type 0 where
+  pub formula : Formula
+  pub spelled : Spelled formula
+  pub spells : text ≡ print formula
+  pub only : (other : Formula) → Spelled other → text ≡ print other → other ≡ formula
+  pub number : n ≡ length (parts formula)
+  pub last : slice_get (parts formula) (n - 1) ≡ Some formula
+  pub row : (i : ℕ) (p : Formula) → slice_get (parts formula) i ≡ Some p →
+      RowMeans m (DecidedRow m.states (parts formula) left.scratch) p
+      (row_at m.states left.scratch i)
+  pub counts : (i : ℕ) (p : Formula) → slice_get (parts formula) i ≡ Some p →
+      IsSomeAnd (slice_get left.records i) (HasCounts (row_at m.states left.scratch i))
+  pub out : left.out ≡ row_at m.states left.scratch (n - 1)
