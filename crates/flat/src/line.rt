@@ -22,7 +22,11 @@ fn row_total(row: &[Branch]) -> u64
     requires { length row.now ≤ 4096 }
     ensures { result ≡ total row.now }
 {
-    row.iter().map(|branch| u64::from(branch.weight)).sum()
+    let mut sum: u64 = 0;
+    for branch in row {
+        sum += u64::from(branch.weight);
+    }
+    sum
 }
 
 // Is the target above the last of a row?

@@ -1,11 +1,16 @@
-use Rattle.std.proofs.Common.{rules, ◌≡◌, ◌∙◌}
-use Rattle.std.specs.List.{sum_by}
-use Rattle.model.specs.declared.branch.Branch.{Branch}
-use Rattle.flat.proofs.Rows.{sum_by-weight}
+use Rattle.std.proofs.Common.{◌≡◌, ◌+◌, get_or, drop, arith}
+use Rattle.std.proofs.lemmas.List.{at_drop_more, at_drop_all}
+use Rattle.model.specs.Mdp.{no_branch, total}
 use Rattle.flat.proofs.line.row_total.Goals as goal
 
--- the library's sum is the total
+pub loop-branch-preserved : goal.loop-branch-preserved
+loop-branch-preserved c =
+    let row = c.args.row.now in
+    let i = c.loop-branch.branch-index in
+    let m : total (drop i row) ≡ (get_or row i no_branch).weight + total (drop (i + 1) row) = at_drop_more total row i no_branch c.loop-branch-test.true in
+    (omega (arith, c.loop-branch.invariant.0), omega (arith, c.loop-branch.invariant.1))
+
 pub returns : goal.returns
 returns c =
-    let sum : c.sum.result ≡ sum_by (λ (b : Branch). b.weight) c.args.row.now = search rules in
-    sum ∙ sum_by-weight c.args.row.now
+    let none : total (drop c.loop-branch.branch-index c.args.row.now) ≡ 0 = at_drop_all total c.args.row.now c.loop-branch.branch-index c.loop-branch-test.false in
+    omega (arith, c.loop-branch.invariant.0)
