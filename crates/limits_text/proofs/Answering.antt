@@ -6,7 +6,7 @@ use Rattle.std.proofs.lemmas.List.FromFn.{length-map-range_with_len}
 use Rattle.std.proofs.lemmas.Bool.{cond_both}
 use Rattle.model.specs.Mdp.{Mdp}
 use Rattle.theory.specs.Formulas.{Formula}
-use Rattle.theory.specs.Found.{verdicts, JudgedRightly}
+use Rattle.theory.specs.Found.{verdicts, JudgedRightly, TwoEnds, ends_of}
 use Rattle.grammar.specs.Spelling.{print, Spelled}
 use Rattle.records.specs.declared.fault.JudgeFault.{JudgeFault}
 use Rattle.records.specs.declared.fault.JudgeFault.TheVariants as judge
@@ -14,7 +14,7 @@ use Rattle.formula.specs.Records.{size}
 use Rattle.formula.specs.Answers.{JudgeAnswer, CountAnswer}
 use Rattle.trial.specs.Judging as judging
 use Rattle.trial.specs.Rows.{byte_at}
-use Rattle.trial.specs.PathEnds.{TwoEnds, ends_of, Told}
+use Rattle.trial.specs.PathEnds.{Told}
 use Rattle.trial.specs.declared.two_ends.Ends.{Ends}
 use Rattle.printing.specs.Carets.{shown}
 use Rattle.formula_text.specs.Answers.{lent_records}

@@ -6,7 +6,8 @@ use Rattle.std.specs.Prelude.{slice_index_or}
 use Rattle.rules.specs.declared.part.Part.{Part}
 use Rattle.rules.specs.Parts.{part_of, units_of}
 use Rattle.trial.specs.declared.two_ends.Ends.{Ends}
-use Rattle.trial.specs.PathEnds.{TwoEnds, EndsAre, Told, ends_at}
+use Rattle.theory.specs.Found.{TwoEnds}
+use Rattle.trial.specs.PathEnds.{EndsAre, Told, ends_at}
 use Rattle.limits_text.specs.Tables.{units_at}
 
 -- both ends in units

@@ -2,12 +2,11 @@
 use Rattle.std.specs.Prelude.{◌≡◌, ℕ, cond, List, [], ◌++◌, map, Some, None, Err, codes, decimal, Option}
 use Rattle.model.specs.Mdp.{Mdp}
 use Rattle.theory.specs.Formulas.{Formula}
-use Rattle.theory.specs.Found.{JudgedRightly}
+use Rattle.theory.specs.Found.{JudgedRightly, TwoEnds, ends_of}
 use Rattle.grammar.specs.Spelling.{print}
 use Rattle.records.specs.declared.fault.JudgeFault.{JudgeFault}
 use Rattle.formula.specs.Answers.{CountAnswer}
 use Rattle.trial.specs.Judging.{Reads, row_of}
-use Rattle.trial.specs.PathEnds.{TwoEnds, ends_of}
 use Rattle.printing.specs.Carets.{shown}
 use Rattle.formula_text.specs.Words.{judge_refusal}
 use Rattle.formula_text.specs.Answers.{lent_records}

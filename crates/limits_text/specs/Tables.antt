@@ -1,6 +1,6 @@
 -- The table of a formula: a line for each state with its verdict, and both ends if the formula has any.
 use Rattle.std.specs.Prelude.{ℕ, cond, List, ◌++◌, Some, None, codes, decimal, Option, ◌==◌}
-use Rattle.trial.specs.PathEnds.{TwoEnds}
+use Rattle.theory.specs.Found.{TwoEnds}
 use Rattle.printing.specs.Layouts.{laid}
 use Rattle.limits_text.specs.Cells.{at_right, at_left}
 

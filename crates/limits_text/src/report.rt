@@ -1,6 +1,7 @@
 ghost use Rattle.std.specs.Prelude.{◌≡◌, ℕ, ◌++◌, map, length, IfOk, string_bytes, codes, Option};
 ghost use Rattle.std.specs.Option.{option_map};
-ghost use Rattle.trial.specs.PathEnds.{TwoEnds, Told};
+ghost use Rattle.theory.specs.Found.{TwoEnds};
+ghost use Rattle.trial.specs.PathEnds.{Told};
 ghost use Rattle.printing.specs.Carets.{shown};
 ghost use Rattle.limits_text.specs.Outcomes.{counts_of, outcome_of};
 ghost use Rattle.limits_text.specs.Reports.{formula_report, refusal_report, ReportAnswer, numbered, LineAnswer};

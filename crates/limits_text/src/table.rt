@@ -1,6 +1,7 @@
 ghost use Rattle.std.specs.Prelude.{◌≡◌, ℕ, ◌<◌, length, Some, IfOk, string_bytes, Option};
 ghost use Rattle.std.specs.Option.{option_map};
-ghost use Rattle.trial.specs.PathEnds.{TwoEnds, Told};
+ghost use Rattle.theory.specs.Found.{TwoEnds};
+ghost use Rattle.trial.specs.PathEnds.{Told};
 ghost use Rattle.limits_text.specs.Tables.{verdict_word, verdict_cells, state_line, heading, units_at, table};
 
 use std::alloc::{AllocError, Global};

@@ -8,7 +8,6 @@ use Rattle.theory.specs.Mixes.{whole}
 use Rattle.theory.specs.Rounds.{rounds}
 use Rattle.theory.specs.Ends.{held, start}
 use Rattle.theory.proofs.WithoutSteps.{held_lawful}
-use Rattle.theory.proofs.Near.{one_set}
 use Rattle.rules.specs.declared.rounding.Rounding.{Rounding}
 use Rattle.rules.specs.declared.rounding.Rounding.TheVariants.{Down, Up}
 use Rattle.rules.specs.declared.part.Part.{Part}
@@ -101,5 +100,4 @@ module _ (m : Mdp) (l : Lawful m) where
     played = λ i o s c d e f. all.played i (omega (arith, slice_get_within after i d f)) o s c d e f;
     meant = λ i o s d f. all.meant i (omega (arith, slice_get_within after i d f)) o s d f;
     pairs = λ i q stood s h. pair q s h;
-    one_set = one_set m l;
   }

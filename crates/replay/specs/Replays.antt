@@ -2,11 +2,10 @@
 use Rattle.std.specs.Prelude.{◌≡◌, ℕ, ◌<◌, ◌≤◌, List, length, take, slice_get, Some, Option, IfSome, IfOk}
 use Rattle.model.specs.Mdp.{Mdp}
 use Rattle.theory.specs.Mixes.{whole}
-use Rattle.theory.specs.Formulas.{Formula}
 use Rattle.trial.specs.Queries.{Query, lower_end, upper_end, Bounds}
 use Rattle.trial.specs.Answers.{answer, start_fault, advance_fault, ends_answer, verdict_answer}
 use Rattle.trial.specs.Judging.{lent, JudgeResult}
-use Rattle.trial.specs.Meanings.{EndsMean, VerdictMeans, JudgeMeans, HasOneSet}
+use Rattle.trial.specs.Meanings.{EndsMean, VerdictMeans, JudgeMeans}
 use Rattle.replay.specs.declared.call.Call.{Call}
 use Rattle.replay.specs.declared.call.Call.TheVariants.{Start, Advance, Ends, Verdict, Judge}
 use Rattle.replay.specs.Standing.{Stands}
@@ -36,7 +35,7 @@ Means m o c = Unit {0}
 pub record Pair (m : Mdp) (q : Query) (s : ℕ) : Type 0 where
   pub lower_within : lower_end m q s ≤ whole
   pub upper_within : upper_end m q s ≤ whole
-  pub bounds : Bounds m q s
+  pub bounds : Bounds m q s (lower_end m q s) (upper_end m q s)
 
 -- exactly one query stands after the calls, or none does
 pub record OneStands (calls : List Call) : Type 0 where
@@ -45,12 +44,11 @@ pub record OneStands (calls : List Call) : Type 0 where
   pub only : (other : Option Query) → Stands calls other → other ≡ query
 
 -- the calls before were played in turn, from no query on, over a source of the model m, and are now those after: there are as many;
--- at each point one query stands or none; each call was made where that stood, and its answer means what it says; at each point
--- the pair of the query that stands bounds all adversaries at every state; and every formula has exactly one set of states
+-- at each point one query stands or none; each call was made where that stood, and its answer means what it says; and at each point
+-- the pair of the query that stands bounds all adversaries at every state
 pub record Replayed (m : Mdp) (before after : List Call) : Type 0 where
   pub number : length after ≡ length before
   pub one_query : (i : ℕ) → i ≤ length after → OneStands (take i after)
   pub played : (i : ℕ) (o : Option Query) → Stands (take i after) o → (c d : Call) → slice_get before i ≡ Some c → slice_get after i ≡ Some d → Played m o c d
   pub meant : (i : ℕ) (o : Option Query) → Stands (take i after) o → (d : Call) → slice_get after i ≡ Some d → Means m o d
   pub pairs : (i : ℕ) (q : Query) → Stands (take i after) (Some q) → (s : ℕ) → s < m.states → Pair m q s
-  pub one_set : (f : Formula) → HasOneSet m f

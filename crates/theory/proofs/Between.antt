@@ -125,6 +125,12 @@ module _ (set : ℕ → Bool) (m : Mdp) (l : Lawful m) (s : ℕ) (p : s < m.stat
 -- the ends of a next bound every adversary
 pub next_ends_bound : NextEndsBound
 next_ends_bound set m l s p = (
-  record { none_above = next_none_above set m l s p; some_reaches = next_best_some set m l s p; gap = rounds_close greater greater_close m l (start set) 1 s p },
-  record { none_below = next_none_below set m l s p; some_reaches = next_worst_some set m l s p; gap = rounds_close lesser lesser_close m l (start set) 1 s p },
+  record {
+    bounds = record { none_above = next_none_above set m l s p; some_reaches = next_best_some set m l s p };
+    gap = rounds_close greater greater_close m l (start set) 1 s p;
+  },
+  record {
+    bounds = record { none_below = next_none_below set m l s p; some_reaches = next_worst_some set m l s p };
+    gap = rounds_close lesser lesser_close m l (start set) 1 s p;
+  },
 )

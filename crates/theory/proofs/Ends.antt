@@ -184,6 +184,12 @@ ends_close prefer keeps left right m l k s p = rounds_close prefer keeps (held l
 -- the ends bound every adversary
 pub ends_bound : EndsBound
 ends_bound left right m l k s p = (
-  record { none_above = best_none_above left right m l k s p; some_reaches = best_some left right m l k s p; gap = ends_close greater greater_close left right m l k s p },
-  record { none_below = worst_none_below left right m l k s p; some_reaches = worst_some left right m l k s p; gap = ends_close lesser lesser_close left right m l k s p },
+  record {
+    bounds = record { none_above = best_none_above left right m l k s p; some_reaches = best_some left right m l k s p };
+    gap = ends_close greater greater_close left right m l k s p;
+  },
+  record {
+    bounds = record { none_below = worst_none_below left right m l k s p; some_reaches = worst_some left right m l k s p };
+    gap = ends_close lesser lesser_close left right m l k s p;
+  },
 )

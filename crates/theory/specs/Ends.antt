@@ -42,35 +42,40 @@ pub record Close (c x y : ℕ) : Type 0 where
   pub under : x ≤ y
   pub near : y ≤ x + c
 
--- a number of units x stands for x / whole, a tally t for t / D ^ k; compared without division
--- the ends of a query for the best: no adversary lies above the upper one, some adversary reaches the lower one, and the gap is at most k
-pub record BestEnds (left right : ℕ → Bool) (m : Mdp) (k s : ℕ) : Type 0 where
-  pub none_above : (σ : Adversary) → Allowed m σ → tally left right k m σ s * whole ≤ upper greater left right k m s * m.denominator ^ k
-  pub some_reaches : (σ : Adversary) × Allowed m σ × (lower greater left right k m s * m.denominator ^ k ≤ tally left right k m σ s * whole)
-  pub gap : Close k (lower greater left right k m s) (upper greater left right k m s)
+-- lo and hi, in units, bound the adversaries' tallies, out of `all`, for the best: no allowed adversary's lies above hi, and some
+-- allowed one's reaches lo
+-- a number of units x stands for x / whole and a tally t for t / all; they are compared without division
+pub record BoundsBest (m : Mdp) (tallied : Adversary → ℕ) (all lo hi : ℕ) : Type 0 where
+  pub none_above : (σ : Adversary) → Allowed m σ → tallied σ * whole ≤ hi * all
+  pub some_reaches : (σ : Adversary) × Allowed m σ × (lo * all ≤ tallied σ * whole)
 
--- the ends of a query for the worst: no adversary lies below the lower one, some adversary is down at the upper one, and the gap is at most k
-pub record WorstEnds (left right : ℕ → Bool) (m : Mdp) (k s : ℕ) : Type 0 where
-  pub none_below : (σ : Adversary) → Allowed m σ → lower lesser left right k m s * m.denominator ^ k ≤ tally left right k m σ s * whole
-  pub some_reaches : (σ : Adversary) × Allowed m σ × (tally left right k m σ s * whole ≤ upper lesser left right k m s * m.denominator ^ k)
-  pub gap : Close k (lower lesser left right k m s) (upper lesser left right k m s)
+-- for the worst: no allowed adversary's lies below lo, and some allowed one's is down at hi
+pub record BoundsWorst (m : Mdp) (tallied : Adversary → ℕ) (all lo hi : ℕ) : Type 0 where
+  pub none_below : (σ : Adversary) → Allowed m σ → lo * all ≤ tallied σ * whole
+  pub some_reaches : (σ : Adversary) × Allowed m σ × (tallied σ * whole ≤ hi * all)
 
--- the ends of a next for the best, after the one round that it has
-pub record BestNextEnds (set : ℕ → Bool) (m : Mdp) (s : ℕ) : Type 0 where
-  pub none_above : (σ : Adversary) → Allowed m σ → next_tally set m σ s * whole ≤ next_upper greater set m s * m.denominator ^ 1
-  pub some_reaches : (σ : Adversary) × Allowed m σ × (next_lower greater set m s * m.denominator ^ 1 ≤ next_tally set m σ s * whole)
-  pub gap : Close 1 (next_lower greater set m s) (next_upper greater set m s)
+-- lo and hi are ends for the best with a gap of at most g: they bound the tallies, and hi lies at most g above lo
+pub record BestEnds (g : ℕ) (m : Mdp) (tallied : Adversary → ℕ) (all lo hi : ℕ) : Type 0 where
+  pub bounds : BoundsBest m tallied all lo hi
+  pub gap : Close g lo hi
 
--- the ends of a next for the worst
-pub record WorstNextEnds (set : ℕ → Bool) (m : Mdp) (s : ℕ) : Type 0 where
-  pub none_below : (σ : Adversary) → Allowed m σ → next_lower lesser set m s * m.denominator ^ 1 ≤ next_tally set m σ s * whole
-  pub some_reaches : (σ : Adversary) × Allowed m σ × (next_tally set m σ s * whole ≤ next_upper lesser set m s * m.denominator ^ 1)
-  pub gap : Close 1 (next_lower lesser set m s) (next_upper lesser set m s)
+-- the same for the worst
+pub record WorstEnds (g : ℕ) (m : Mdp) (tallied : Adversary → ℕ) (all lo hi : ℕ) : Type 0 where
+  pub bounds : BoundsWorst m tallied all lo hi
+  pub gap : Close g lo hi
 
--- the theorem of a next's ends
-abbrev pub NextEndsBound : Type 0
-NextEndsBound = (set : ℕ → Bool) (m : Mdp) → Lawful m → (s : ℕ) → s < m.states → BestNextEnds set m s × WorstNextEnds set m s
-
--- the theorem of the ends, of the original model, for both
+-- the theorem of the ends, of the original model: after k rounds they bound the tallies with k steps, with a gap of at most k
 abbrev pub EndsBound : Type 0
-EndsBound = (left right : ℕ → Bool) (m : Mdp) → Lawful m → (k s : ℕ) → s < m.states → BestEnds left right m k s × WorstEnds left right m k s
+EndsBound = (left right : ℕ → Bool) (m : Mdp) → Lawful m → (k s : ℕ) → s < m.states →
+    BestEnds k m (λ σ. tally left right k m σ s) (m.denominator ^ k)
+        (lower greater left right k m s) (upper greater left right k m s)
+    × WorstEnds k m (λ σ. tally left right k m σ s) (m.denominator ^ k)
+        (lower lesser left right k m s) (upper lesser left right k m s)
+
+-- the theorem of a next's ends: after its one round the gap is at most one unit
+abbrev pub NextEndsBound : Type 0
+NextEndsBound = (set : ℕ → Bool) (m : Mdp) → Lawful m → (s : ℕ) → s < m.states →
+    BestEnds 1 m (λ σ. next_tally set m σ s) (m.denominator ^ 1)
+        (next_lower greater set m s) (next_upper greater set m s)
+    × WorstEnds 1 m (λ σ. next_tally set m σ s) (m.denominator ^ 1)
+        (next_lower lesser set m s) (next_upper lesser set m s)

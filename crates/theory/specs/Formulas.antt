@@ -90,7 +90,11 @@ abbrev mutual
   PathHolds m c b (until f g) s = (left right : ℕ → Bool) → SetOf m (Holds m f) left → SetOf m (Holds m g) right →
       Under (extremal c b) left right m s
 
--- the theorem of meaning: every formula has exactly one set of states, so that no quantifier over the sets of a part is empty
-abbrev pub OneSet : Type 0
-OneSet = (m : Mdp) → Lawful m → (f : Formula) → (set : ℕ → Bool) × SetOf m (Holds m f) set ×
+-- a formula has exactly one set of states, so that what is said of each of its sets is said of one
+abbrev pub HasOneSet : Mdp → Formula → Type 0
+HasOneSet m f = (set : ℕ → Bool) × SetOf m (Holds m f) set ×
     ((other : ℕ → Bool) → SetOf m (Holds m f) other → (s : ℕ) → s < m.states → other s ≡ set s)
+
+-- the theorem of meaning: every formula has exactly one, so that no quantifier over the sets of a part is empty
+abbrev pub OneSet : Type 0
+OneSet = (m : Mdp) → Lawful m → (f : Formula) → HasOneSet m f

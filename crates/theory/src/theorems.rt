@@ -6,7 +6,7 @@ ghost use Rattle.theory.specs.Ends.{EndsBound, NextEndsBound};
 ghost use Rattle.theory.specs.WithoutSteps.{MarksDecide};
 ghost use Rattle.theory.specs.Formulas.{OneSet};
 ghost use Rattle.theory.specs.Verdicts.{OneVerdict, VerdictsCorrect};
-ghost use Rattle.theory.specs.Found.{AllJudgedRightly};
+ghost use Rattle.theory.specs.Found.{AllJudgedRightly, FormulaEndsBound};
 ghost use Rattle.theory.specs.Distances.{UntilNear, NextNear, WithoutStepsDecided, QueriesCorrect};
 
 // a lawful model has an allowed adversary
@@ -82,4 +82,9 @@ pub fn queries_are_correct()
 // every formula is judged rightly: what rounds and marks find are its only verdicts, a yes holds, a no fails, and an undecided state is near its bound
 pub fn formulas_are_judged_rightly()
     ensures { AllJudgedRightly }
+{}
+
+// the two ends that a formula's verdicts are read off bound every adversary, over the sets of states of its parts
+pub fn formula_ends_bound_all()
+    ensures { FormulaEndsBound }
 {}

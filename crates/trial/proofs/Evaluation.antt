@@ -7,7 +7,7 @@ use Rattle.std.proofs.lemmas.List.FromFn.{length-map-range_with_len}
 use Rattle.model.specs.Mdp.{Mdp, Lawful}
 use Rattle.theory.specs.Formulas.{Comparison, below, at_most, above, at_least, Formula, truth, label, negation, conjunction, probability, PathFormula, next, until_within, until, LawfulFormula, LawfulPath, extremal}
 use Rattle.theory.specs.Verdicts.{VerdictSets, asked, negated, joined, next_verdicts, until_within_verdicts}
-use Rattle.theory.specs.Found.{verdicts, until_verdicts}
+use Rattle.theory.specs.Found.{verdicts, until_verdicts, TwoEnds, ends_of}
 use Rattle.theory.specs.Ends.{lower, upper, next_lower, next_upper}
 use Rattle.theory.specs.Mixes.{mix_down, mix_up}
 use Rattle.theory.proofs.Alike.{held_alike, next_alike}
@@ -20,7 +20,7 @@ use Rattle.trial.specs.Rows.{sets, bytes}
 use Rattle.trial.specs.Judging.{row_of, rows_of, counted, counted_each}
 use Rattle.trial.specs.Evaluation.{row_at, HasRow, Needs, row_by, ends_by, RecordOf, Chained}
 use Rattle.trial.specs.declared.two_ends.Ends.{Ends}
-use Rattle.trial.specs.PathEnds.{TwoEnds, ends_of, ends_of_last, Told, EndsAgree}
+use Rattle.trial.specs.PathEnds.{ends_of_last, Told, EndsAgree}
 use Rattle.trial.proofs.FormulaRows.{formula_sets, negation_row, conjunction_row, next_row, until_within_row, until_row}
 
 -- the comparison that is coded is the one that is meant

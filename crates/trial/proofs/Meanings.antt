@@ -1,16 +1,15 @@
 -- What a trial answers, and what judging leaves, means what it says.
-use Rattle.std.proofs.Common.{◌≡◌, ◌≢◌, ℕ, zero, suc, ◌+◌, ◌-◌, ◌*◌, ◌<◌, ◌≤◌, Bool, true, false, not, ◌&&◌, List, [], ◌∷◌, ◌++◌, length, drop, get_or, Some, Option, sym, refl, ap, ◌∙◌, subst, append_assoc, length-append, add-zero, arith}
-use Rattle.std.specs.Prelude.{slice_get, IsSomeAnd}
+use Rattle.std.proofs.Common.{◌≡◌, ◌≢◌, ℕ, zero, suc, ◌+◌, ◌-◌, ◌*◌, ◌<◌, ◌≤◌, Bool, true, false, not, ◌&&◌, List, [], ◌∷◌, ◌++◌, length, drop, get_or, None, Some, Option, sym, refl, ap, ◌∙◌, subst, append_assoc, length-append, add-zero, arith}
+use Rattle.std.specs.Prelude.{slice_get, slice_index_or, IsSomeAnd, IfSome}
 use Rattle.model.specs.Mdp.{Mdp, Lawful}
 use Rattle.model.proofs.Copies.{over_front}
 use Rattle.theory.specs.Ends.{lower, upper}
 use Rattle.theory.specs.Formulas.{Comparison as Compared, Formula, truth, label, negation, conjunction, probability, next, until_within, until, has_label}
 use Rattle.theory.specs.Verdicts.{asked, fits, harder_end, easier_end}
 use Rattle.theory.specs.Distances.{Decided, Undecided}
-use Rattle.theory.specs.Found.{verdicts, UndecidedNear}
-use Rattle.theory.proofs.Ends.{ends_bound}
-use Rattle.theory.proofs.Near.{queries_correct}
-use Rattle.theory.proofs.Judge.{sound}
+use Rattle.theory.specs.Found.{verdicts, TwoEnds, ends_of, BoundsFormula, UndecidedNear}
+use Rattle.theory.proofs.Near.{one_set, queries_correct}
+use Rattle.theory.proofs.Judge.{sound, formula_ends_bound}
 use Rattle.theory.proofs.Judged.{all_judged_rightly}
 use Rattle.rounds.proofs.Lists.{told_listed}
 use Rattle.rules.specs.declared.part.Part.{Part}
@@ -18,6 +17,7 @@ use Rattle.rules.specs.Parts.{units_of, prefers_number}
 use Rattle.records.specs.declared.comparison.Comparison.{Comparison}
 use Rattle.records.specs.declared.comparison.Comparison.TheVariants.{Below, AtMost, Above, AtLeast}
 use Rattle.records.specs.declared.record.Record.{Record}
+use Rattle.grammar.specs.Spelling.{print, Spelled}
 use Rattle.grammar.proofs.Readings.{one_reading}
 use Rattle.formula.specs.Records.{size, parts, records}
 use Rattle.formula.specs.Tokens.{meant}
@@ -28,12 +28,16 @@ use Rattle.trial.specs.declared.verdict.Verdict.{Verdict}
 use Rattle.trial.specs.declared.verdict.Verdict.TheVariants as verdict
 use Rattle.trial.specs.Aims.{preference_of, aim_for}
 use Rattle.trial.specs.Answers.{same_aim}
-use Rattle.trial.specs.Queries.{Query, marked, lower_end, upper_end}
+use Rattle.trial.specs.Queries.{Query, marked, lower_end, upper_end, Bounds}
 use Rattle.trial.specs.VerdictBytes.{verdict_number, verdict_by, read_verdict}
 use Rattle.trial.specs.Rows.{byte_at}
 use Rattle.trial.specs.Judging.{Buffers, Accepted, counted_each, row_of, rows_of, judged}
+use Rattle.trial.specs.declared.two_ends.Ends.{Ends}
+use Rattle.trial.specs.PathEnds.{Told}
+use Rattle.trial.specs.JudgedEnds.{BoundText}
 use Rattle.trial.specs.Evaluation.{row_at}
-use Rattle.trial.specs.Meanings.{BoundAll, EndsMean, VerdictSays, VerdictMeans, DecidedRow, NearBound, ByteMeans, RowMeans, HasCounts, JudgeMeans}
+use Rattle.trial.specs.Meanings.{EndsMean, VerdictSays, VerdictMeans, DecidedRow, NearBound, ByteMeans, RowMeans, HasCounts, JudgeMeans}
+use Rattle.trial.proofs.Queries.{bounds_for}
 use Rattle.trial.proofs.Evaluation.{row_after, row_length, rows_length, parts_before, parts_last, length_parts, counted_length}
 
 -- of a verdict by two tests it is enough to know what each case tells
@@ -43,23 +47,22 @@ by_tests P false true holds fails neither = neither refl refl
 by_tests P false false holds fails neither = fails refl
 
 module _ (m : Mdp) (l : Lawful m) (s : ℕ) (h : s < m.states) where
-  -- the ends of an until bound all adversaries, for the best and for the worst
-  bound_all : (a : Aim) (left right : ℕ → Bool) (j lo hi : ℕ) → lo ≡ lower (prefers_number (preference_of a)) left right j m s → hi ≡ upper (prefers_number (preference_of a)) left right j m s →
-      BoundAll a left right m j s lo hi
-  bound_all Best left right j lo hi e f = let x = (ends_bound left right m l j s h).0 in rw (e, f) (record { none_above = x.none_above; some_reaches = x.some_reaches; gap = x.gap })
-  bound_all Worst left right j lo hi e f = let x = (ends_bound left right m l j s h).1 in rw (e, f) (record { none_below = x.none_below; some_reaches = x.some_reaches; gap = x.gap })
+  -- numbers that are the ends of a query bound it
+  bound_ends : (q : Query) (lo hi : ℕ) → lo ≡ lower_end m q s → hi ≡ upper_end m q s → Bounds m q s lo hi
+  bound_ends q lo hi e f = rw (e, f) (bounds_for m l q.aim q s h)
 
   -- so two parts of the ends of the query that stands mean what they say
   pub ends_mean : (o : Option Query) (q : Query) → o ≡ Some q → (lo hi : Part) → units_of lo ≡ lower_end m q s → units_of hi ≡ upper_end m q s → EndsMean m o s (lo, hi, q.rounds)
-  ends_mean o q e lo hi f g = rw e (record { rounds = refl; bound = bound_all q.aim (marked q.left) (marked q.right) q.rounds (units_of lo) (units_of hi) f g })
+  ends_mean o q e lo hi f g = rw e (record { rounds = refl; bounds = bound_ends q (units_of lo) (units_of hi) f g })
 
-  -- a verdict that is read off the ends of an until says what is so
-  read_says : (c : Compared) (b j : ℕ) (left right : ℕ → Bool) → VerdictSays (read_verdict c b (lower (asked c) left right j m s) (upper (asked c) left right j m s)) c b left right j m s
-  read_says c b j left right =
-      let x = queries_correct c b j left right m l s h in
-      let lo = lower (asked c) left right j m s in
-      let hi = upper (asked c) left right j m s in
-      by_tests (λ v. VerdictSays v c b left right j m s) (fits c (harder_end c lo hi) b) (fits c (easier_end c lo hi) b) x.yes_holds x.no_fails (λ e f. x.undecided_near (record { not_sure = e; is_possible = f }))
+  -- a verdict that is read off the ends for a comparison says what is so
+  read_says : (c : Compared) (b : ℕ) (q : Query) →
+      VerdictSays (read_verdict c b (lower (asked c) (marked q.left) (marked q.right) q.rounds m s) (upper (asked c) (marked q.left) (marked q.right) q.rounds m s)) c b m q s
+  read_says c b q =
+      let x = queries_correct c b q.rounds (marked q.left) (marked q.right) m l s h in
+      let lo = lower (asked c) (marked q.left) (marked q.right) q.rounds m s in
+      let hi = upper (asked c) (marked q.left) (marked q.right) q.rounds m s in
+      by_tests (λ v. VerdictSays v c b m q s) (fits c (harder_end c lo hi) b) (fits c (easier_end c lo hi) b) x.yes_holds x.no_fails (λ e f. x.undecided_near (record { not_sure = e; is_possible = f }))
 
   -- a comparison asks for what a query does whose aim goes with it
   asked_aim : (c : Comparison) (a : Aim) → same_aim (aim_for c) a ≡ true → prefers_number (preference_of a) ≡ asked (meant c)
@@ -81,7 +84,7 @@ module _ (m : Mdp) (l : Lawful m) (s : ℕ) (h : s < m.states) where
       let p = asked_aim c q.aim same in
       let low : lo ≡ lower (asked (meant c)) left right q.rounds m s = f ∙ ap (λ (prefer : ℕ → ℕ → Bool). lower prefer left right q.rounds m s) p in
       let high : hi ≡ upper (asked (meant c)) left right q.rounds m s = g ∙ ap (λ (prefer : ℕ → ℕ → Bool). upper prefer left right q.rounds m s) p in
-      rw (e, low, high) (read_says (meant c) b q.rounds left right)
+      rw (e, low, high) (read_says (meant c) b q)
 
 -- the byte of a verdict is one of three
 three_bytes : (x y : Bool) → verdict_number (verdict_by x y) ≤ 2
@@ -152,6 +155,17 @@ last_of [] f = refl
 last_of (g ∷ fs) f = last_of fs f
 
 module _ (m : Mdp) (l : Lawful m) where
+  -- ends that are told of a formula bound it at every state
+  bound_told : (f : Formula) (two : Option TwoEnds) (e : Ends) → ends_of m f ≡ two → Told m.states two (Some e) → (d : Part) (s : ℕ) → s < m.states →
+      BoundsFormula m f s (units_of (slice_index_or e.lower.values s d)) (units_of (slice_index_or e.upper.values s d))
+  bound_told f None e own told d s h = absurd told
+  bound_told f (Some two) e own told d s h = rw (told.lower d s h, told.upper d s h) (formula_ends_bound m l f two own s h)
+
+  -- so those that are told of a text bound its formula
+  pub told_bound : (text : List ℕ) (ends : Option Ends) → ((f : Formula) → Spelled f → text ≡ print f → Told m.states (ends_of m f) ends) → IfSome ends (BoundText m text)
+  told_bound text None told = tt
+  told_bound text (Some e) told = λ f spelled spells. bound_told f (ends_of m f) e refl (told f spelled spells)
+
   -- the byte of a state in the row of a formula
   own_byte : (f : Formula) (s : ℕ) → s < m.states → get_or (row_of m f) s 0 ≡ byte_at (verdicts m f) s
   own_byte f s h = told_listed m.states (byte_at (verdicts m f)) 0 s h
@@ -239,4 +253,5 @@ module _ (m : Mdp) (l : Lawful m) where
         row = λ i p e. row_means (DecidedRow m.states (parts f) left.scratch) decided p (row_at m.states left.scratch i) (rows i p e);
         counts = λ i p e. rw (filled, rows i p e) (counted_among m (parts f) (records 0 f) as_many (drop (length lines) before.records) i p e);
         out = sym (rows (n - 1) f (last_part f n a.number));
+        one_set = one_set m l;
       })

@@ -4,6 +4,7 @@ use Rattle.std.proofs.lemmas.Bool.{cond-true, cond-false, le-leb, lt-ltb, ltb-tr
 use Rattle.model.specs.Mdp.{Mdp, Lawful}
 use Rattle.theory.specs.Rounds.{round, rounds}
 use Rattle.theory.specs.Mixes.{whole}
+use Rattle.theory.specs.Ends.{lower, upper}
 use Rattle.theory.proofs.Bridge.{rounds_same}
 use Rattle.theory.proofs.Ends.{ends_bound}
 use Rattle.rules.specs.declared.part.Part.{Part}
@@ -18,7 +19,7 @@ use Rattle.formula.specs.Tokens.{meant}
 use Rattle.trial.specs.declared.aim.Aim.{Aim}
 use Rattle.trial.specs.declared.aim.Aim.TheVariants.{Best, Worst}
 use Rattle.trial.specs.declared.fault.TrialFault.{TrialFault}
-use Rattle.trial.specs.Aims.{aim_for}
+use Rattle.trial.specs.Aims.{preference_of, aim_for}
 use Rattle.trial.specs.VerdictBytes.{read_verdict}
 use Rattle.trial.specs.declared.state.QueryState.{QueryState}
 use Rattle.trial.specs.Queries.{Query, marked, lower_end, upper_end, BoundsFor}
@@ -50,7 +51,8 @@ module _ (m : Mdp) (flags : List Bool) (t : QueryState) where
 
 module _ (m : Mdp) (l : Lawful m) where
   -- what the ends of a query mean for all adversaries
-  pub bounds_for : (a : Aim) (q : Query) (s : ℕ) → s < m.states → BoundsFor a m q s
+  pub bounds_for : (a : Aim) (q : Query) (s : ℕ) → s < m.states →
+      BoundsFor a m q s (lower (prefers_number (preference_of a)) (marked q.left) (marked q.right) q.rounds m s) (upper (prefers_number (preference_of a)) (marked q.left) (marked q.right) q.rounds m s)
   bounds_for Best q s h = (ends_bound (marked q.left) (marked q.right) m l q.rounds s h).0
   bounds_for Worst q s h = (ends_bound (marked q.left) (marked q.right) m l q.rounds s h).1
 

@@ -4,7 +4,7 @@ use Rattle.model.specs.Mdp.{Mdp}
 use Rattle.theory.specs.Formulas.{Comparison, below, Formula, extremal, has_label, most_steps}
 use Rattle.theory.specs.Verdicts.{VerdictSets, asked, known, negated, joined, next_verdicts, until_within_verdicts}
 use Rattle.theory.specs.Ends.{lower, upper, next_lower, next_upper}
-use Rattle.theory.specs.Found.{until_verdicts}
+use Rattle.theory.specs.Found.{until_verdicts, TwoEnds, ends_of}
 use Rattle.records.specs.declared.comparison.Comparison.{Comparison as Code}
 use Rattle.records.specs.declared.record.Kind.{Kind}
 use Rattle.records.specs.declared.record.Kind.TheVariants.{Truth, Label, Negation, Conjunction, Next, UntilWithin, Until}
@@ -12,7 +12,7 @@ use Rattle.records.specs.declared.record.Record.{Record}
 use Rattle.formula.specs.Tokens.{meant}
 use Rattle.trial.specs.Rows.{sets, bytes}
 use Rattle.trial.specs.Judging.{row_of}
-use Rattle.trial.specs.PathEnds.{TwoEnds, ends_of, EndsAgree}
+use Rattle.trial.specs.PathEnds.{EndsAgree}
 
 -- the row of n bytes with this number
 abbrev pub row_at : ℕ → List ℕ → ℕ → List ℕ

@@ -6,8 +6,7 @@ use Rattle.model.specs.Mdp.{Mdp}
 use Rattle.theory.specs.Adversaries.{Adversary, Allowed}
 use Rattle.theory.specs.Tallies.{tally, next_tally}
 use Rattle.theory.specs.Mixes.{whole}
-use Rattle.theory.specs.Ends.{Close}
-use Rattle.theory.specs.Formulas.{Comparison, Formula, truth, label, negation, conjunction, probability, next, until_within, until, Fits, SetOf, Holds}
+use Rattle.theory.specs.Formulas.{Comparison, Formula, truth, label, negation, conjunction, probability, next, until_within, until, Fits, SetOf, Holds, HasOneSet}
 use Rattle.theory.specs.Verdicts.{VerdictSets, Judged}
 use Rattle.theory.specs.Distances.{StateValue, WithinUnits, Undecided}
 use Rattle.grammar.specs.Spelling.{print, Spelled}
@@ -17,43 +16,17 @@ use Rattle.records.specs.declared.comparison.Comparison.{Comparison as Code}
 use Rattle.records.specs.declared.record.Record.{Record}
 use Rattle.formula.specs.Records.{parts}
 use Rattle.formula.specs.Tokens.{meant}
-use Rattle.trial.specs.declared.aim.Aim.{Aim}
-use Rattle.trial.specs.declared.aim.Aim.TheVariants.{Best, Worst}
 use Rattle.trial.specs.declared.verdict.Verdict.{Verdict}
 use Rattle.trial.specs.declared.verdict.Verdict.TheVariants as verdict
-use Rattle.trial.specs.Queries.{Query, marked}
+use Rattle.trial.specs.Queries.{Query, query_tally, Bounds}
 use Rattle.trial.specs.Judging.{Buffers}
 use Rattle.trial.specs.Evaluation.{row_at}
-
--- lo and hi, in units, bound the tallies of an until with j steps for the best: no allowed adversary's lies above hi, some allowed
--- one's reaches lo, and hi lies at most j above lo
--- a number of units x stands for x / whole and a tally t for t / D ^ j; they are compared without division
-pub record BoundBest (left right : ℕ → Bool) (m : Mdp) (j s lo hi : ℕ) : Type 0 where
-  pub none_above : (σ : Adversary) → Allowed m σ →
-      tally left right j m σ s * whole ≤ hi * m.denominator ^ j
-  pub some_reaches : (σ : Adversary) × Allowed m σ ×
-      (lo * m.denominator ^ j ≤ tally left right j m σ s * whole)
-  pub gap : Close j lo hi
-
--- for the worst: no allowed adversary's lies below lo, some allowed one's is down at hi, and hi lies at most j above lo
-pub record BoundWorst (left right : ℕ → Bool) (m : Mdp) (j s lo hi : ℕ) : Type 0 where
-  pub none_below : (σ : Adversary) → Allowed m σ →
-      lo * m.denominator ^ j ≤ tally left right j m σ s * whole
-  pub some_reaches : (σ : Adversary) × Allowed m σ ×
-      (tally left right j m σ s * whole ≤ hi * m.denominator ^ j)
-  pub gap : Close j lo hi
-
--- they bound the tallies for what is asked for
-abbrev pub BoundAll : Aim → (ℕ → Bool) → (ℕ → Bool) → Mdp → ℕ → ℕ → ℕ → ℕ → Type 0
-BoundAll Best left right m j s lo hi = BoundBest left right m j s lo hi
-BoundAll Worst left right m j s lo hi = BoundWorst left right m j s lo hi
 
 -- two parts and a number of rounds are the ends of a query at a state: the rounds are the query's, and the units of the parts
 -- bound the tallies of all adversaries over as many steps
 pub record AreEnds (m : Mdp) (q : Query) (s : ℕ) (lower upper : Part) (j : ℕ) : Type 0 where
   pub rounds : j ≡ q.rounds
-  pub bound : BoundAll q.aim (marked q.left) (marked q.right) m j s
-      (units_of lower) (units_of upper)
+  pub bounds : Bounds m q s (units_of lower) (units_of upper)
 
 -- what answered ends mean: a query stands, and they are its ends
 abbrev pub EndsMean : Mdp → Option Query → ℕ → Part × Part × ℕ → Type 0
@@ -63,26 +36,20 @@ EndsMean m o s r = IsSomeAnd o (λ q. AreEnds m q s r.0 r.1 r.2)
 abbrev pub ValueWithin : ℕ → Comparison → ℕ → ℕ → Mdp → (Adversary → ℕ) → Type 0
 ValueWithin u c b all m tallied = (x : ℕ) × StateValue c m tallied x × WithinUnits u b all x
 
--- what a verdict says of an until with j steps under a comparison and a bound b: a yes, that every allowed adversary's tally fits;
--- a no, that some allowed one's does not; an undecided one, that the state's value lies within j units of the bound
-abbrev pub VerdictSays : Verdict → Comparison → ℕ → (ℕ → Bool) → (ℕ → Bool) → ℕ → Mdp → ℕ → Type 0
-VerdictSays verdict.Yes c b left right j m s =
-    (σ : Adversary) → Allowed m σ →
-    Fits c (tally left right j m σ s * whole) (b * m.denominator ^ j)
-VerdictSays verdict.No c b left right j m s = (σ : Adversary) × Allowed m σ ×
-    ¬ (Fits c (tally left right j m σ s * whole) (b * m.denominator ^ j))
-VerdictSays verdict.Undecided c b left right j m s =
-    ValueWithin j c b (m.denominator ^ j) m (λ σ. tally left right j m σ s)
+-- what a verdict says of a query at a state, under a comparison and a bound b: a yes, that every allowed adversary's tally fits;
+-- a no, that some allowed one's does not; an undecided one, that the state's value lies within as many units of the bound as the
+-- query has had rounds
+abbrev pub VerdictSays : Verdict → Comparison → ℕ → Mdp → Query → ℕ → Type 0
+VerdictSays verdict.Yes c b m q s =
+    (σ : Adversary) → Allowed m σ → Fits c (query_tally m q s σ * whole) (b * m.denominator ^ q.rounds)
+VerdictSays verdict.No c b m q s =
+    (σ : Adversary) × Allowed m σ × ¬ (Fits c (query_tally m q s σ * whole) (b * m.denominator ^ q.rounds))
+VerdictSays verdict.Undecided c b m q s =
+    ValueWithin q.rounds c b (m.denominator ^ q.rounds) m (query_tally m q s)
 
--- what an answered verdict means: a query stands, and this is so of its until with as many steps as it has had rounds
+-- what an answered verdict means: a query stands, and the verdict says what is so of it
 abbrev pub VerdictMeans : Mdp → Option Query → ℕ → Code → ℕ → Verdict → Type 0
-VerdictMeans m o s c b v =
-    IsSomeAnd o (λ q. VerdictSays v (meant c) b (marked q.left) (marked q.right) q.rounds m s)
-
--- a formula has exactly one set of states, so that what is said of each of its sets is said of one
-abbrev pub HasOneSet : Mdp → Formula → Type 0
-HasOneSet m f = (set : ℕ → Bool) × SetOf m (Holds m f) set ×
-    ((other : ℕ → Bool) → SetOf m (Holds m f) other → (s : ℕ) → s < m.states → other s ≡ set s)
+VerdictMeans m o s c b v = IsSomeAnd o (λ q. VerdictSays v (meant c) b m q s)
 
 -- g is one of the formulas, and there is no 2 in its row; the rows of n bytes stand in the order of the formulas
 pub record DecidedRow (n : ℕ) (fs : List Formula) (rows : List ℕ) (g : Formula) : Type 0 where
@@ -133,7 +100,7 @@ pub record HasCounts (row : List ℕ) (r : Record) : Type 0 where
 
 -- what an accepted judge of a text means, which answers n: the text spells exactly one formula; that has n parts and is the last of
 -- them; in the scratch the row with a part's number means what it says of that part, and the record with that number has its counts;
--- and the output is the last row
+-- the output is the last row; and every formula has exactly one set of states, so that nothing here is said of no set
 pub record JudgeMeans (m : Mdp) (text : List ℕ) (left : Buffers) (n : ℕ) : Type 0 where
   pub formula : Formula
   pub spelled : Spelled formula
@@ -147,3 +114,4 @@ pub record JudgeMeans (m : Mdp) (text : List ℕ) (left : Buffers) (n : ℕ) : T
   pub counts : (i : ℕ) (p : Formula) → slice_get (parts formula) i ≡ Some p →
       IsSomeAnd (slice_get left.records i) (HasCounts (row_at m.states left.scratch i))
   pub out : left.out ≡ row_at m.states left.scratch (n - 1)
+  pub one_set : (p : Formula) → HasOneSet m p

@@ -1,29 +1,11 @@
 -- The two ends that the verdicts of a formula are read off, at each state.
 use Rattle.std.specs.Prelude.{◌≡◌, ℕ, ◌<◌, cond, List, [], ◌∷◌, Some, None, Option, nat_lt, slice_index_or}
 use Rattle.model.specs.Mdp.{Mdp}
-use Rattle.theory.specs.Ends.{lower, upper, next_lower, next_upper}
-use Rattle.theory.specs.Formulas.{Formula, truth, label, negation, conjunction, probability, next, until_within, until}
-use Rattle.theory.specs.Verdicts.{asked}
-use Rattle.theory.specs.Found.{verdicts}
+use Rattle.theory.specs.Formulas.{Formula}
+use Rattle.theory.specs.Found.{TwoEnds, ends_of}
 use Rattle.rules.specs.declared.part.Part.{Part}
 use Rattle.rules.specs.Parts.{part_of, units_of}
 use Rattle.trial.specs.declared.two_ends.Ends.{Ends}
-
--- a lower and an upper end at each state
-abbrev pub TwoEnds : Type 0
-TwoEnds = (ℕ → ℕ) × (ℕ → ℕ)
-
--- the ends that the verdicts of a formula are read off: of a next and of an until with steps, the lower one over the sure states of its parts and
--- the upper one over the possible ones; other formulas have none
-abbrev pub ends_of : Mdp → Formula → Option TwoEnds
-ends_of m truth = None
-ends_of m (label i) = None
-ends_of m (negation f) = None
-ends_of m (conjunction f g) = None
-ends_of m (probability c b (next f)) = Some (next_lower (asked c) (verdicts m f).sure m, next_upper (asked c) (verdicts m f).possible m)
-ends_of m (probability c b (until_within k f g)) =
-    Some (lower (asked c) (verdicts m f).sure (verdicts m g).sure k m, upper (asked c) (verdicts m f).possible (verdicts m g).possible k m)
-ends_of m (probability c b (until f g)) = None
 
 -- the ends of the last of several formulas
 abbrev pub ends_of_last : Mdp → List Formula → Option TwoEnds

@@ -1,6 +1,8 @@
 -- A query: its marks, what it asks for, and how many rounds it has had; its ends, and what they mean for all adversaries.
-use Rattle.std.specs.Prelude.{ℕ, Bool, List, ◌==◌, slice_index}
+use Rattle.std.specs.Prelude.{ℕ, ◌^◌, Bool, List, ◌==◌, slice_index}
 use Rattle.model.specs.Mdp.{Mdp}
+use Rattle.theory.specs.Adversaries.{Adversary}
+use Rattle.theory.specs.Tallies.{tally}
 use Rattle.theory.specs.Ends.{lower, upper, BestEnds, WorstEnds}
 use Rattle.rules.specs.Parts.{prefers_number}
 use Rattle.trial.specs.declared.aim.Aim.{Aim}
@@ -26,11 +28,16 @@ lower_end m q s = lower (prefers_number (preference_of q.aim)) (marked q.left) (
 abbrev pub upper_end : Mdp → Query → ℕ → ℕ
 upper_end m q s = upper (prefers_number (preference_of q.aim)) (marked q.left) (marked q.right) q.rounds m s
 
--- what the ends mean for all adversaries of the source, by what is asked for
-abbrev pub BoundsFor : Aim → Mdp → Query → ℕ → Type 0
-BoundsFor Best m q s = BestEnds (marked q.left) (marked q.right) m q.rounds s
-BoundsFor Worst m q s = WorstEnds (marked q.left) (marked q.right) m q.rounds s
+-- what an adversary's paths of as many steps as it has had rounds weigh, of those from a state that meet its until
+abbrev pub query_tally : Mdp → Query → ℕ → Adversary → ℕ
+query_tally m q s σ = tally (marked q.left) (marked q.right) q.rounds m σ s
 
--- what the ends of a query mean
-abbrev pub Bounds : Mdp → Query → ℕ → Type 0
-Bounds m q s = BoundsFor q.aim m q s
+-- lo and hi, in units, are ends of the query at a state by an aim: they bound the tallies of all adversaries, and they differ by at
+-- most as many units as the query has had rounds
+abbrev pub BoundsFor : Aim → Mdp → Query → ℕ → ℕ → ℕ → Type 0
+BoundsFor Best m q s lo hi = BestEnds q.rounds m (query_tally m q s) (m.denominator ^ q.rounds) lo hi
+BoundsFor Worst m q s lo hi = WorstEnds q.rounds m (query_tally m q s) (m.denominator ^ q.rounds) lo hi
+
+-- they are by what the query asks for
+abbrev pub Bounds : Mdp → Query → ℕ → ℕ → ℕ → Type 0
+Bounds m q s lo hi = BoundsFor q.aim m q s lo hi

@@ -1,11 +1,11 @@
-ghost use Rattle.std.specs.Prelude.{◌≡◌, ◌*◌, List, [], length, Some, ◌==◌, IfOk};
+ghost use Rattle.std.specs.Prelude.{◌≡◌, ◌*◌, List, [], length, Some, ◌==◌, IfOk, IfSome};
 ghost use Rattle.std.specs.List.{count_by};
 ghost use Rattle.theory.specs.Formulas.{Formula};
 ghost use Rattle.records.specs.declared.comparison.Comparison.{Comparison as Code};
 ghost use Rattle.trial.specs.Judging.{counted_each, rows_of, lent, JudgeResult};
 ghost use Rattle.trial.specs.PathEnds.{Told, ends_of_last};
-ghost use Rattle.trial.specs.JudgedEnds.{records_of, EndsTold};
-ghost use Rattle.trial.specs.Meanings.{JudgeMeans, HasOneSet};
+ghost use Rattle.trial.specs.JudgedEnds.{records_of, EndsTold, BoundText};
+ghost use Rattle.trial.specs.Meanings.{JudgeMeans};
 ghost use Rattle.trial.specs.VerdictBytes.{verdict_number};
 ghost use Rattle.trial.specs.Evaluation.{row_at, HasRow, Needs, row_by, ends_by, Chained};
 
@@ -40,11 +40,11 @@ impl<'r> Rows<'r> {
     // The until of the two parts of a record.
     fn until<'s, S: Source>(&self, source: &'s S, record: &Record) -> Until<'s, 'r, S>
         requires states { self.now.states ≡ (S.Source.model source.now).states }
-        requires left { HasRow self.now.states self.now.bytes.now record.now.first }
-        requires right { HasRow self.now.states self.now.bytes.now record.now.second }
+        requires left { HasRow self.now.states self.now.bytes.now «record».now.first }
+        requires right { HasRow self.now.states self.now.bytes.now «record».now.second }
         ensures source { result.source.now ≡ source.now }
-        ensures left { result.left.now ≡ row_at self.now.states self.now.bytes.now record.now.first }
-        ensures right { result.right.now ≡ row_at self.now.states self.now.bytes.now record.now.second }
+        ensures left { result.left.now ≡ row_at self.now.states self.now.bytes.now «record».now.first }
+        ensures right { result.right.now ≡ row_at self.now.states self.now.bytes.now «record».now.second }
     {
         Until {
             source,
@@ -56,9 +56,9 @@ impl<'r> Rows<'r> {
 
 // The comparison and the bound of a probability.
 fn threshold(record: &Record) -> Threshold
-    requires { (c : Code) × (record.now.comparison ≡ Some c) }
-    ensures comparison { record.now.comparison ≡ Some result.comparison }
-    ensures bound { result.bound ≡ record.now.number }
+    requires { (c : Code) × («record».now.comparison ≡ Some c) }
+    ensures comparison { «record».now.comparison ≡ Some result.comparison }
+    ensures bound { result.bound ≡ «record».now.number }
 {
     Threshold {
         comparison: record.comparison.unwrap(),
@@ -75,9 +75,9 @@ fn write_row_of<S: Source>(
 ) -> Option<Ends>
     requires states { rows.now.states ≡ (S.Source.model source.now).states }
     requires row_long { length row.old ≡ (S.Source.model source.now).states }
-    requires needs { Needs record.now.kind (S.Source.model source.now).states rows.now.bytes.now record.now }
-    ensures row { row.new ≡ row_by (S.Source.model source.now) rows.now.bytes.now record.now }
-    ensures ends { Told (S.Source.model source.now).states (ends_by record.now.kind (S.Source.model source.now) rows.now.bytes.now record.now) result }
+    requires needs { Needs «record».now.kind (S.Source.model source.now).states rows.now.bytes.now «record».now }
+    ensures row { row.new ≡ row_by (S.Source.model source.now) rows.now.bytes.now «record».now }
+    ensures ends { Told (S.Source.model source.now).states (ends_by «record».now.kind (S.Source.model source.now) rows.now.bytes.now «record».now) result }
 {
     // The arms of a next and of an until with steps end alike: were their ends made in a match of their own, the other kinds
     // would stand in both, and were they answered by what writes their row, that would have to promise them again.
@@ -159,7 +159,7 @@ pub fn judge_with_ends<S: Source>(
     ensures ends { EndsTold (S.Source.model source.now) text.now result }
     ensures meaning { IfOk (records_of result) (JudgeMeans (S.model source.now) text.now
         (lent records.new scratch.new out.new)) }
-    ensures one_set { (f : Formula) → HasOneSet (S.model source.now) f }
+    ensures ends_meaning { IfOk result (λ j. IfSome j.ends (BoundText (S.model source.now) text.now)) }
 {
     let states = source.states();
     let count = record_count(text, records.len())?;

@@ -1,11 +1,10 @@
 ghost use Rattle.std.specs.Prelude.{◌≡◌, None, Err, IfOk};
 ghost use Rattle.trial.specs.declared.fault.TrialFault.{TrialFault as Faults};
 ghost use Rattle.records.specs.declared.fault.JudgeFault.{JudgeFault as JudgeFaults};
-ghost use Rattle.theory.specs.Formulas.{Formula};
 ghost use Rattle.trial.specs.Judging.{lent, JudgeResult, query_after};
 ghost use Rattle.trial.specs.Keeping.{standing, Kept};
 ghost use Rattle.trial.specs.Answers.{answer, start_fault, started, advance_fault, advanced, ends_answer, verdict_answer};
-ghost use Rattle.trial.specs.Meanings.{EndsMean, VerdictMeans, JudgeMeans, HasOneSet};
+ghost use Rattle.trial.specs.Meanings.{EndsMean, VerdictMeans, JudgeMeans};
 
 use crate::aim::Aim;
 use crate::ends::advanced_ends;
@@ -134,7 +133,6 @@ impl<'a, S: Source> Trial<'a, S> {
         ensures refused { (e : JudgeFaults) → result ≡ Err e → self.new ≡ self.old }
         ensures meaning { IfOk result (JudgeMeans (S.model self.old.layer.below.now) text.now
             (lent records.new scratch.new out.new)) }
-        ensures one_set { (f : Formula) → HasOneSet (S.model self.old.layer.below.now) f }
     {
         let source = *self.layer.below();
         let judged = judge_with_ends(source, text, records, scratch, out)?;

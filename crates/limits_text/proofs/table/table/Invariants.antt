@@ -1,7 +1,8 @@
 use Rattle.std.proofs.Common.{length, string_bytes, Option}
 use Rattle.std.specs.Option.{option_map}
 use Rattle.printing.proofs.Laying.{Left}
-use Rattle.trial.specs.PathEnds.{TwoEnds, Told}
+use Rattle.theory.specs.Found.{TwoEnds}
+use Rattle.trial.specs.PathEnds.{Told}
 use Rattle.limits_text.specs.Tables.{state_line, heading, units_at}
 use Rattle.limits_text.proofs.table.table.Given as goal
 

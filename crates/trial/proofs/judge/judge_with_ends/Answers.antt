@@ -1,17 +1,16 @@
 use Rattle.std.proofs.Common.{◌≡◌, ◌-◌, ◌*◌, ◌++◌, drop, sym, refl, ap, ◌∙◌, subst, arith}
-use Rattle.theory.proofs.Near.{one_set}
+use Rattle.theory.specs.Formulas.{Formula}
+use Rattle.grammar.specs.Spelling.{print, Spelled}
 use Rattle.grammar.proofs.Readings.{one_reading}
 use Rattle.formula.specs.Records.{size, parts}
 use Rattle.trial.specs.Judging.{lent, Accepted}
 use Rattle.trial.specs.Evaluation.{row_at, HasRow}
-use Rattle.trial.specs.PathEnds.{ends_of, ends_of_last, Told}
+use Rattle.theory.specs.Found.{ends_of}
+use Rattle.trial.specs.PathEnds.{ends_of_last, Told}
 use Rattle.trial.proofs.Evaluation.{parts_before, parts_last, ends_last}
 use Rattle.trial.proofs.Judging.{some_part, reads, read_twice, last_there, filled_chained, accepted}
-use Rattle.trial.proofs.Meanings.{judge_means}
+use Rattle.trial.proofs.Meanings.{judge_means, told_bound}
 use Rattle.trial.proofs.judge.judge_with_ends.Goals as goal
-
-pub returns-in_err-count-clause-one_set : goal.returns-in_err-count-clause-one_set
-returns-in_err-count-clause-one_set g c = one_set (g.S.Source.model c.args.source.now) (g.S.Source.lawful c.args.source.now)
 
 pub returns-then-scratch-count : goal.returns-then-scratch-count
 returns-then-scratch-count g c =
@@ -24,7 +23,7 @@ returns-then-scratch-count g c =
       answer = ((a.formula, reads _ _ left _ counted.0 a, omega (arith, bytes, short)), refl);
       ends = tt;
       meaning = tt;
-      one_set = one_set m (g.S.Source.lawful c.args.source.now);
+      ends_meaning = tt;
     }
 
 pub returns-then-out-states : goal.returns-then-out-states
@@ -39,11 +38,8 @@ returns-then-out-states g c =
       answer = ((a.formula, reads _ _ left _ counted.0 a, omega (arith, bytes, long), λ e. other (e ∙ sym c.states-states.ensures)), refl);
       ends = tt;
       meaning = tt;
-      one_set = one_set m (g.S.Source.lawful c.args.source.now);
+      ends_meaning = tt;
     }
-
-pub returns-in_err-read_formula-clause-one_set : goal.returns-in_err-read_formula-clause-one_set
-returns-in_err-read_formula-clause-one_set g c = one_set (g.S.Source.model c.args.source.now) (g.S.Source.lawful c.args.source.now)
 
 pub evaluate-ends-requires-clause-chained : goal.evaluate-ends-requires-clause-chained
 evaluate-ends-requires-clause-chained g c =
@@ -85,12 +81,15 @@ returns g c =
     (c.evaluate-ends.ensures.counts (parts twice.formula) chain) (c.evaluate-ends.ensures.rows (parts twice.formula) chain)
     (c.copy_from_slice.ensures.after ∙ c.of.ensures.row ∙ ap (λ n. row_at n (c.evaluate-ends.new.scratch ++ drop (c.in_ok-count.count * n) c.args.scratch.now) (c.in_ok-count.count - 1)) states))
     in
+    let told : (f : Formula) → Spelled f → c.args.text.now ≡ print f → Told m.states (ends_of m f) c.evaluate-ends.result =
+    λ f spelled spells.
+    subst (λ z. Told m.states z c.evaluate-ends.result)
+    (ap (ends_of_last m) (parts_last twice.formula) ∙ ends_last m (parts_before twice.formula) twice.formula ∙ ap (ends_of m) (one_reading twice.formula f twice.reads.spelled spelled (sym twice.reads.spells ∙ spells)))
+    (c.evaluate-ends.ensures.ends (parts twice.formula) chain)
+    in
     record {
       answer = judged;
-      ends = λ f spelled spells.
-          subst (λ z. Told m.states z c.evaluate-ends.result)
-          (ap (ends_of_last m) (parts_last twice.formula) ∙ ends_last m (parts_before twice.formula) twice.formula ∙ ap (ends_of m) (one_reading twice.formula f twice.reads.spelled spelled (sym twice.reads.spells ∙ spells)))
-          (c.evaluate-ends.ensures.ends (parts twice.formula) chain);
+      ends = told;
+      ends_meaning = told_bound m l c.args.text.now c.evaluate-ends.result told;
       meaning = judge_means m l _ _ _ _ judged;
-      one_set = one_set m l;
     }

@@ -7,8 +7,8 @@ use Rattle.trial.proofs.Queries.{verdict_answered, kept_answered, same_aims}
 use Rattle.trial.proofs.Meanings.{verdict_means}
 use Rattle.trial.proofs.trial.Trial.verdict.Goals as goal
 
-pub returns-clause-answer : goal.returns-clause-answer
-returns-clause-answer g c =
+pub returns : goal.returns
+returns g c =
     let trial = c.args.self.now in
     let x = trial.layer.below.now in
     let m = g.S.Source.model x in
@@ -16,25 +16,14 @@ returns-clause-answer g c =
     let o = standing m.states trial.query in
     let t = c.in_ok-query.query.now in
     let q = query_in m.states t in
-    let stands : trial.query ≡ Some t = search rules in
-    let e : o ≡ Some q = ap (standing m.states) stands in
-    let read = kept_answered m trial.layer.held t q (trial.kept t stands) o e s c.in_ok-lower.lower c.in_ok-lower.upper c.in_ok-lower.field-0-2 c.ends.result c.ends.ensures.answer c.in_ok-lower.was in
+    let kept : trial.query ≡ Some t = search rules in
+    let stands : o ≡ Some q = ap (standing m.states) kept in
+    let read = kept_answered m trial.layer.held t q (trial.kept t kept) o stands s c.in_ok-lower.lower c.in_ok-lower.upper c.in_ok-lower.field-0-2 c.ends.result c.ends.ensures.answer c.in_ok-lower.was in
     let agree : aim_for c.args.comparison ≡ t.aim = grind arith in
-    ap (λ (v : Verdict). Ok v) c.read_off.ensures
-    ∙ verdict_answered m s c.args.comparison c.args.bound o q e read.there (rw c.from.ensures at c.if-bound-from.false) (same_aims (aim_for c.args.comparison) q.aim agree) _ _ read.lower read.upper
-
-pub returns-clause-meaning : goal.returns-clause-meaning
-returns-clause-meaning g c =
-    let trial = c.args.self.now in
-    let x = trial.layer.below.now in
-    let m = g.S.Source.model x in
-    let s = c.args.state in
-    let o = standing m.states trial.query in
-    let t = c.in_ok-query.query.now in
-    let q = query_in m.states t in
-    let stands : trial.query ≡ Some t = search rules in
-    let e : o ≡ Some q = ap (standing m.states) stands in
-    let read = kept_answered m trial.layer.held t q (trial.kept t stands) o e s c.in_ok-lower.lower c.in_ok-lower.upper c.in_ok-lower.field-0-2 c.ends.result c.ends.ensures.answer c.in_ok-lower.was in
-    let agree : aim_for c.args.comparison ≡ t.aim = grind arith in
-    subst (VerdictMeans m o s c.args.comparison c.args.bound) (sym c.read_off.ensures)
-    (verdict_means m (g.S.Source.lawful x) s read.there o q e c.args.comparison c.args.bound (same_aims (aim_for c.args.comparison) q.aim agree) _ _ read.lower read.upper)
+    let same = same_aims (aim_for c.args.comparison) q.aim agree in
+    record {
+      answer = ap (λ (v : Verdict). Ok v) c.read_off.ensures
+          ∙ verdict_answered m s c.args.comparison c.args.bound o q stands read.there (rw c.from.ensures at c.if-bound-from.false) same _ _ read.lower read.upper;
+      meaning = subst (VerdictMeans m o s c.args.comparison c.args.bound) (sym c.read_off.ensures)
+          (verdict_means m (g.S.Source.lawful x) s read.there o q stands c.args.comparison c.args.bound same _ _ read.lower read.upper);
+    }
