@@ -6,3 +6,5 @@ pub mod Outcomes
 pub mod Answering
 pub mod Reporting
 pub mod Writing
+pub mod Pieces
+pub mod StateLines

@@ -5,3 +5,4 @@ pub mod Outcomes
 pub mod Reports
 pub mod Summaries
 pub mod Lists
+pub mod Promise
