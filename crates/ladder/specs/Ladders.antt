@@ -6,7 +6,7 @@ use Rattle.model.specs.Mdp.{Mdp, Row, no_labels, to}
 abbrev pub only : ℕ → List Bool
 only k = slice_set no_labels k true
 
--- a climb from the state s: back to 0 with d - w, on to the next state with w; a branch of weight 0 is absent
+-- a climb from the state s: on to the next one with w, and back to 0 with what is left of d, where something is left
 abbrev pub climb : ℕ → ℕ → ℕ → Row
 climb d w s = cond (nat_lt w d) (to 0 (d - w) ∷ to (s + 1) w ∷ []) (to (s + 1) w ∷ [])
 
@@ -14,7 +14,7 @@ climb d w s = cond (nat_lt w d) (to 0 (d - w) ∷ to (s + 1) w ∷ []) (to (s + 
 abbrev pub ladder_choices : ℕ → ℕ → ℕ → ℕ → List Row
 ladder_choices r d w s = cond (nat_lt s r) ((to s d ∷ []) ∷ climb d w s ∷ []) (cond (s == r) ((to s d ∷ []) ∷ []) [])
 
--- state r has label a, state 0 has label b
+-- the top, r, has label a, and the bottom, 0, label b
 abbrev pub ladder_labels : ℕ → ℕ → List Bool
 ladder_labels r s = cond (s == r) (only 0) (cond (s == 0) (only 1) no_labels)
 

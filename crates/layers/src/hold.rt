@@ -62,7 +62,7 @@ impl<S: Source> Hold<S> {
     }
 }
 
-// The hold layer is a source: a held state has one choice, back to itself, and the rest is as below.
+// The hold layer is a source: a held state only stays, and all else is told by the source below.
 impl<S: Source> Source for Hold<S> {
     ghost model = { λ h. held_model (S.Source.model h.below) h.held };
 

@@ -29,9 +29,8 @@ fn better_part(preference: Preference, a: Part, b: Part) -> Part
     if preference.prefers(a, b) { a } else { b }
 }
 
-// The sums of weight times value over a lawful row, for the lower and for the upper ends. A loop over the row's branches, by a
-// rule of the project. A rule of parts has a loop of its own, for one sum: one loop for any number of sums would want a list of
-// them, and a list of parts for each state.
+// The sums of weight times value over a lawful row, of the lower ends and of the upper ones: one pass over the row, with both
+// sums in step.
 fn weighted_sums(denominator: &Denominator, row: &[Branch], values: &[Interval]) -> (u64, u64)
     requires lawful { LawfulRow (length values.now) denominator.now.value row.now }
     ensures lower { (d : IntervalValue) → result.0 ≡ sum_of (carried lower_units (valued (told values.now d) row.now)) }

@@ -1,4 +1,5 @@
-// Rounds: in a round each state gets the most preferred mix among its choices. One generic round serves every value rule.
+// Rounds of values: one round gives a state the best mix that a choice of its own offers. One generic round serves every value
+// rule.
 // It may use the crates model, theory and rules.
 #![tactic(auto)]
 

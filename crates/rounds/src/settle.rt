@@ -26,7 +26,7 @@ pub fn settle<S: Source>(
     let backup = ByRule { rule };
     let mut buffer = [Branch::default(); STATES];
     let mut done = 0;
-    // It is a rule of the project that the fixed point of marks is a `loop` that yields the round reached by `break`.
+    // The value of the loop: the number of the round that changed no mark, or none after one round more than there are states.
     let reached = loop {
         if done > states {
             break None;

@@ -7,7 +7,7 @@ use crate::preference::Preference;
 use crate::rule::Rule;
 use model::branch::Branch;
 
-// The rule of marks: the mix is yes if some branch's value is yes. Yes is the greater of the two.
+// The rule of marks: a row is mixed to yes where one of its branches leads to a yes. Yes is the greater of the two.
 #[derive(Clone, Copy)]
 pub struct Marks {
     pub preference: Preference,

@@ -6,8 +6,8 @@ ghost use Rattle.rules.specs.Values.{told};
 use crate::denominator::Denominator;
 use model::branch::Branch;
 
-// A value rule: values, a preference between them, and a mix of a row's weights and values into one value. It never
-// refuses and answers alike each time.
+// A value rule: what the values are, which of two is preferred, and how a row is mixed to one value. It has an answer to every
+// question, and always the same one.
 pub trait Rule {
     // the values of the rule
     type Value: Copy;

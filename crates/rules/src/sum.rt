@@ -17,8 +17,7 @@ pub(crate) fn weighted_sum(denominator: &Denominator, row: &[Branch], values: &[
     ensures bound { result ≤ whole * denominator.now.value }
 {
     let mut sum = 0;
-    // A loop over the row's branches, by a rule of the project; of a chain that maps and sums them, what the closure gives
-    // for a branch stays open.
+    // One pass over the row: each branch adds its weight times the value of its target.
     for branch in row {
         sum += u64::from(branch.weight) * u64::from(values[branch.target].units);
     }

@@ -10,7 +10,7 @@ use Rattle.theory.specs.WithoutSteps.{Extremal, over_none, at_most_none, at_leas
 pub data Comparison : Type 0 where
   below at_most above at_least : Comparison
 
--- state formulas hold path formulas, which hold state formulas again; a label is told by its letter's number, a bound in units
+-- the two kinds of formulas are made of each other; a label is told by its letter's number, a bound in units
 mutual
   pub data Formula : Type 0 where
     truth : Formula

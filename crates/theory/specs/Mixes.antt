@@ -19,7 +19,7 @@ mix_down d ps = sum_of ps / d
 abbrev pub mix_up : ℕ → List (ℕ × ℕ) → ℕ
 mix_up d ps = (sum_of ps + (d - 1)) / d
 
--- marks: yes if some branch's value is yes
+-- marks: a row with a yes among its values is mixed to yes
 abbrev pub mix_marks : ℕ → List (ℕ × Bool) → Bool
 mix_marks d [] = false
 mix_marks d (p ∷ ps) = p.1 || mix_marks d ps

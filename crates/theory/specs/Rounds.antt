@@ -26,7 +26,7 @@ module _ {V : Type 0} (at_least_as_good : V → V → Bool) where
   most_of d (x ∷ xs) = most x xs
 
 module _ {V : Type 0} (at_least_as_good : V → V → Bool) (mix : ℕ → List (ℕ × V) → V) where
-  -- in a round each state gets the most preferred mix among its choices
+  -- one round: of the mixes that its choices offer, a state takes the most preferred
   abbrev pub round : Mdp → (ℕ → V) → ℕ → V
   round m v s = most_of at_least_as_good (v s) (map (mixed mix m v) (m.choices s))
 

@@ -1,4 +1,4 @@
--- Chapter 3. Value rules: values, a preference between them, and a mix of a row's weights and values into one value.
+-- Chapter 3. Value rules: what the values are, which of two is preferred, and how the values of a row are mixed by its weights.
 use Rattle.std.specs.Prelude.{◌≡◌, ℕ, ◌+◌, ◌≤◌, Bool, true, ◌⊎◌, List, [], ◌∷◌, ◌++◌}
 use Rattle.model.specs.Mdp.{Row, Each}
 

@@ -72,7 +72,7 @@ pub record RunsArePaths (k : ℕ) (m : Mdp) (σ : Adversary) (h : List ℕ) (s :
 abbrev pub RunsCorrect : Type 0
 RunsCorrect = (m : Mdp) → Lawful m → (σ : Adversary) → Allowed m σ → (k : ℕ) (h : List ℕ) (s : ℕ) → s < m.states → RunsArePaths k m σ h s
 
--- until: some state lies in right and every earlier one in left
+-- until: the path comes to a state in right, and all its states before lie in left
 abbrev pub meets : (ℕ → Bool) → (ℕ → Bool) → List ℕ → Bool
 meets left right [] = false
 meets left right (s ∷ ss) = right s || (left s && meets left right ss)

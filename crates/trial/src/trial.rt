@@ -79,8 +79,8 @@ impl<'a, S: Source> Trial<'a, S> {
         Ok(())
     }
 
-    // The lower and the upper end of the query at a state, and how many rounds it has had: a tuple of the three, by a rule of
-    // the project.
+    // The lower and the upper end of the query at a state, and how many rounds it has had. A caller takes the three apart at the
+    // call.
     pub fn ends(&self, state: usize) -> Result<(Part, Part, u64), TrialFault>
         ensures answer { result ≡ ends_answer (S.Source.model self.now.layer.below.now) (standing (S.Source.model self.now.layer.below.now).states self.now.query) state }
         ensures meaning { IfOk result (EndsMean (S.model self.now.layer.below.now)

@@ -67,7 +67,7 @@ impl<'s, 'm, S: Source> Until<'s, 'm, S> {
         }
     }
 
-    // A layer over the source that holds each state in right and each that is not in left.
+    // The layer in which the states that settle this until are held: those in right, and those outside left.
     pub(crate) fn layer(&self) -> Hold<&'s S>
         ensures source { result.below.now ≡ self.now.source.now }
         ensures held { ValuesOf (S.Source.model self.now.source.now).states result.held (stops (marked self.now.left.now) (marked self.now.right.now)) }

@@ -1,6 +1,6 @@
-// Worked examples from outside: of published lectures and of a thesis. Each line of the input is a remark, a model, or a question
-// on the model before it that is asked through the public calls, and what came of it is printed. The remarks tell where the
-// numbers of the expected output come from: it was worked out from these and from the rules, without any of this code.
+// Worked examples: small models on which every number can be found by hand. Each line of the input is a remark, a model, or a
+// question on the model before it that is asked through the public calls, and what came of it is printed. The remarks tell the
+// model and how its numbers come about: the expected output was worked out from these, without any of this code.
 // It may use the crates model, text, tables, ladder, rules, rounds, records, trial and printing.
 #![tactic(auto)]
 
