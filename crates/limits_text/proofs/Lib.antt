@@ -8,3 +8,4 @@ pub mod Reporting
 pub mod Writing
 pub mod Pieces
 pub mod StateLines
+pub mod Promising

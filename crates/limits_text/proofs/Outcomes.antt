@@ -10,6 +10,7 @@ use Rattle.theory.specs.Found.{verdicts, JudgedRightly}
 use Rattle.trial.specs.VerdictBytes.{verdict_number, verdict_by}
 use Rattle.trial.specs.Rows.{byte_at}
 use Rattle.trial.specs.Judging.{row_of}
+use Rattle.trial.proofs.Meanings.{none_possible, two_open}
 use Rattle.limits_text.specs.declared.outcome.Outcome.TheVariants as outcome
 use Rattle.limits_text.specs.Outcomes.{counts_of, outcome_of, OutcomeMeans}
 
@@ -37,17 +38,7 @@ none_there b (x ∷ xs) e (suc i) h =
     let count : count_by (λ y. eqb y b) (x ∷ xs) ≡ cond {A = ℕ} (eqb x b) 1 0 + count_by (λ y. eqb y b) xs = sum_by-cons (λ y. cond (eqb y b) 1 0) x xs in
     none_there b xs (omega arith) i (omega arith)
 
--- what the byte of a verdict tells of its sets
-no_impossible : (x y : Bool) → verdict_number (verdict_by x y) ≡ 0 → y ≡ false
-no_impossible true y e = cc
-no_impossible false true e = cc
-no_impossible false false e = refl
-
-undecided_open : (x y : Bool) → verdict_number (verdict_by x y) ≡ 2 → (x ≡ false) × (y ≡ true)
-undecided_open true y e = cc
-undecided_open false true e = (refl, refl)
-undecided_open false false e = cc
-
+-- what the byte of a verdict tells of its sets, where it is none of a no
 other_sure : (x y : Bool) → verdict_number (verdict_by x y) ≢ 0 → verdict_number (verdict_by x y) ≢ 2 → x ≡ true
 other_sure true y not_no not_undecided = refl
 other_sure false true not_no not_undecided = absurd (not_undecided refl)
@@ -83,7 +74,7 @@ module _ (m : Mdp) (f : Formula) (rightly : JudgedRightly m f) where
   fails some =
       let at = some_there 0 row some in
       let inside : at.0 < m.states = omega (arith, at.1, long) in
-      (at.0, inside, (rightly.meant at.0 inside).no_fails (no_impossible (v.sure at.0) (v.possible at.0) (sym (there at.0 inside) ∙ at.2)))
+      (at.0, inside, (rightly.meant at.0 inside).no_fails (none_possible (v.sure at.0) (v.possible at.0) (sym (there at.0 inside) ∙ at.2)))
 
   module _ (no : count_by (λ b. eqb b 0) row ≡ 0) where
     -- without one no state has it
@@ -95,7 +86,7 @@ module _ (m : Mdp) (f : Formula) (rightly : JudgedRightly m f) where
     undecided some =
         let at = some_there 2 row some in
         let inside : at.0 < m.states = omega (arith, at.1, long) in
-        let both = undecided_open (v.sure at.0) (v.possible at.0) (sym (there at.0 inside) ∙ at.2) in
+        let both = two_open (v.sure at.0) (v.possible at.0) (sym (there at.0 inside) ∙ at.2) in
         ((at.0, inside, record { not_sure = both.0; is_possible = both.1 }), λ s h. other_possible (v.sure s) (v.possible s) (within s h) (not_no s h))
 
     -- without one too, every state is sure

@@ -99,13 +99,13 @@ one_sure false true e = absurd (omega arith)
 one_sure false false e = absurd (omega arith)
 
 -- 0 only where it is impossible
-none_possible : (x y : Bool) → verdict_number (verdict_by x y) ≡ 0 → y ≡ false
+pub none_possible : (x y : Bool) → verdict_number (verdict_by x y) ≡ 0 → y ≡ false
 none_possible true y e = absurd (omega arith)
 none_possible false true e = absurd (omega arith)
 none_possible false false e = refl
 
 -- 2 only where it is possible and not sure
-two_open : (x y : Bool) → verdict_number (verdict_by x y) ≡ 2 → (x ≡ false) × (y ≡ true)
+pub two_open : (x y : Bool) → verdict_number (verdict_by x y) ≡ 2 → (x ≡ false) × (y ≡ true)
 two_open true y e = absurd (omega arith)
 two_open false true e = (refl, refl)
 two_open false false e = absurd (omega arith)
@@ -203,7 +203,7 @@ module _ (m : Mdp) (l : Lawful m) where
   near_bound D d (probability c b (until f g)) s h u n = λ x y. n (d f x) (d g y)
 
   -- the row of a formula means what it says
-  row_means : (HasDecided : Formula → Type 0) → ((g : Formula) → HasDecided g → Decided m (verdicts m g)) → (f : Formula) (row : List ℕ) → row ≡ row_of m f → RowMeans m HasDecided f row
+  pub row_means : (HasDecided : Formula → Type 0) → ((g : Formula) → HasDecided g → Decided m (verdicts m g)) → (f : Formula) (row : List ℕ) → row ≡ row_of m f → RowMeans m HasDecided f row
   row_means D d f row e = rw e (record { long = row_length m f; byte = λ s h. byte_means s h (get_or (row_of m f) s 0) (own_byte f s h) })
     where
       byte_means : (s : ℕ) → s < m.states → (b : ℕ) → b ≡ byte_at (verdicts m f) s → ByteMeans m D f s b
