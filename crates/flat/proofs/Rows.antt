@@ -1,19 +1,12 @@
 -- A row, and how it grows.
 use Rattle.std.proofs.Common.{◌≡◌, ℕ, ◌+◌, ◌-◌, ◌<◌, ltb, List, [], ◌∷◌, ◌++◌, length, get_or, true, Some, refl, ap, ◌∙◌, arith, length-append}
 use Rattle.std.proofs.Math.Seq.{get_or-append_seam}
-use Rattle.std.proofs.lemmas.List.Sums.{sum_by-cons}
 use Rattle.std.proofs.lemmas.Option.{slice_get-get_or}
-use Rattle.std.specs.List.{sum_by}
 use Rattle.std.specs.Option.{option_map_or}
 use Rattle.model.specs.declared.branch.Branch.{Branch}
 use Rattle.model.specs.Mdp.{Row, total}
 use Rattle.flat.specs.Flats.{row_start}
 use Rattle.flat.specs.Readings.{goes_above}
-
--- the total is the sum of the weights
-pub sum_by-weight : (row : Row) → sum_by (λ (b : Branch). b.weight) row ≡ total row
-sum_by-weight [] = refl
-sum_by-weight (b ∷ row) = sum_by-cons (λ (b : Branch). b.weight) b row ∙ ap (λ n. b.weight + n) (sum_by-weight row)
 
 -- the total with one branch more
 pub total-push : (row : Row) (b : Branch) → total (row ++ (b ∷ [])) ≡ b.weight + total row

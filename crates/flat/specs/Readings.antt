@@ -10,7 +10,7 @@ use Rattle.text.specs.declared.fault.FileFault.{FileFault}
 use Rattle.text.specs.Cuts.{Line, field}
 use Rattle.text.specs.Fields.{lawful_number, labels_of}
 use Rattle.text.specs.Words.{one_of}
-use Rattle.text.specs.Questions.{word, number, last_word, states_given, denominator_given, row_sum, above_last, count, word_fits, fields_fit}
+use Rattle.text.specs.Questions.{word, number, last_word, states_given, denominator_given, row_sum, above_last, count, word_fits}
 use Rattle.text.specs.Refusals.{ask, or_next, number_fault, line_fault, line_refusal}
 use Rattle.flat.specs.declared.flat.Flat.{Flat}
 use Rattle.flat.specs.declared.loader.Header.{Header}
@@ -67,11 +67,6 @@ Says line record_of.Choice = word line ≡ Some word.Choice
 Says line (record_of.Branch branch) = (word line ≡ Some word.Branch) × (branch.target ≡ number 1 line) × (branch.weight ≡ number 2 line)
 Says line record_of.End = word line ≡ Some word.End
 
--- the line passes questions 3 and 4, and this is its word; or it is refused
-abbrev pub WordRead : List Line → Line → Result Word LineFault → Type 0
-WordRead before line (Ok w) = (word line ≡ Some w) × (word_fits before line ≡ true) × (fields_fit line ≡ true)
-WordRead before line (Err fault) = line_fault before line ≡ Some fault
-
 -- fields 1 and 2 are lawful numbers, and these are they; or the line is refused, whatever is asked next
 abbrev pub NumbersRead : Line → Result (ℕ × ℕ) LineFault → Type 0
 NumbersRead line (Ok v) = (lawful_number (field 1 line) ≡ true) × (lawful_number (field 2 line) ≡ true) × (v.0 ≡ number 1 line) × (v.1 ≡ number 2 line)
@@ -82,9 +77,9 @@ abbrev pub LineRead : List Line → Line → Result Record LineFault → Type 0
 LineRead before line (Ok r) = (line_fault before line ≡ None) × Says line r
 LineRead before line (Err fault) = line_fault before line ≡ Some fault
 
--- the same of a line whose word is known
-abbrev pub RestRead : Word → List Line → Line → Result Record LineFault → Type 0
-RestRead w before line r = word line ≡ Some w → word_fits before line ≡ true → fields_fit line ≡ true → LineRead before line r
+-- what reading a line answers, where it has this word, which may stand after the lines that the loader has read
+abbrev pub RestRead : Word → Loader → Line → Result Record LineFault → Type 0
+RestRead w r line result = (before : List Line) → Follows r before → word line ≡ Some w → word_fits before line ≡ true → LineRead before line result
 
 -- the word of a line that says this
 abbrev pub word_of_record : Record → Word

@@ -1,12 +1,13 @@
-ghost use Rattle.std.specs.Prelude.{◌≡◌, ◌≤◌, ◌&&◌, true, false, List, length, IfOk, MatchResult, nat_lt};
+ghost use Rattle.std.specs.Prelude.{◌≡◌, ◌≤◌, ◌↔◌, ◌&&◌, List, length, IsTrue, IsOk, IfOk, IfErr, nat_lt};
 ghost use Rattle.model.specs.Mdp.{total};
 ghost use Rattle.text.specs.Cuts.{Line, fields};
 ghost use Rattle.text.specs.Fields.{between};
-ghost use Rattle.text.specs.Questions.{last_word, closed};
-ghost use Rattle.text.specs.declared.fault.LineFault.TheVariants.{Sum};
+ghost use Rattle.text.specs.Questions.{closed};
+ghost use Rattle.text.specs.Words.{arity};
+ghost use Rattle.text.specs.declared.fault.LineFault.TheVariants.{Fields, Sum};
 ghost use Rattle.text.specs.declared.word.Word.TheVariants as kind;
 ghost use Rattle.flat.specs.declared.loader.Loader.{Loader};
-ghost use Rattle.flat.specs.Readings.{row_of, goes_above, Follows, Admits, WordRead, NumbersRead, LineRead, RestRead};
+ghost use Rattle.flat.specs.Readings.{row_of, goes_above, Follows, Admits, NumbersRead, LineRead, RestRead};
 
 use crate::loader::{Header, Loader, Record};
 use model::branch::Branch;
@@ -36,18 +37,15 @@ fn is_above(row: &[Branch], target: usize) -> bool
     row.last().is_none_or(|branch| branch.target < target)
 }
 
-// The word of a line, if it may stand here (3) and the line has its fields (4).
-fn next_word(last: Option<Word>, line: &[u8]) -> Result<Word, LineFault>
-    ensures { (before : List Line) → last ≡ last_word before → WordRead before (fields line.now) result }
+// Refuses a line whose number of fields is not that of its word (4).
+fn check_fields(line: &[u8], word: Word) -> Result<(), LineFault>
+    ensures passed { IsOk result ↔ (length (fields line.now) ≡ arity word) }
+    ensures refused { IfErr result (λ fault. fault ≡ Fields) }
 {
-    let word = Word::try_from(field(line, 0))?;
-    if !word.may_follow(last) {
-        return Err(LineFault::Word);
-    }
     if field_count(line) != word.fields() {
         return Err(LineFault::Fields);
     }
-    Ok(word)
+    Ok(())
 }
 
 // The numbers of fields 1 and 2, if they are lawful (5).
@@ -66,11 +64,12 @@ fn header_in_range(states: u32, denominator: u32) -> bool
     (1..=STATES as u32).contains(&states) && (1..=DENOMINATOR).contains(&denominator)
 }
 
-// A header: its numbers are lawful (5) and in range (6).
+// A header: it has its fields (4), and its numbers are lawful (5) and in range (6).
 fn read_header(line: &[u8]) -> Result<Record, LineFault>
-    ensures read { (before : List Line) → RestRead kind.Mdp before (fields line.now) result }
+    ensures read { (loader : Loader) → RestRead kind.Mdp loader (fields line.now) result }
     ensures admitted { (loader : Loader) → IfOk result (Admits loader) }
 {
+    check_fields(line, Word::Mdp)?;
     let (states, denominator) = two_numbers(line)?;
     if !header_in_range(states, denominator) {
         return Err(LineFault::Range);
@@ -105,7 +104,9 @@ impl Loader<'_> {
 
     // Refuses a line after a row that does not sum up (9).
     fn check_row(&self) -> Result<(), LineFault>
-        ensures { (before : List Line) → Follows self.now before → MatchResult result (λ _. closed before ≡ true) (λ e. (closed before ≡ false) × (e ≡ Sum)) }
+        ensures passed { (before : List Line) → Follows self.now before
+            → IsOk result ↔ IsTrue (closed before) }
+        ensures refused { IfErr result (λ fault. fault ≡ Sum) }
     {
         if !self.row_closes() {
             return Err(LineFault::Sum);
@@ -113,11 +114,13 @@ impl Loader<'_> {
         Ok(())
     }
 
-    // A state: its labels are lawful (7), the row before it sums up (9), and the header has states left (10).
+    // A state: it has its fields (4), its labels are lawful (7), the row before it sums up (9), and the header has states
+    // left (10).
     fn read_state(&self, line: &[u8]) -> Result<Record, LineFault>
-        ensures read { (before : List Line) → Follows self.now before → RestRead kind.State before (fields line.now) result }
+        ensures read { RestRead kind.State self.now (fields line.now) result }
         ensures admitted { IfOk result (Admits self.now) }
     {
+        check_fields(line, Word::State)?;
         let labels = labels(field(line, 1), 1)?;
         self.check_row()?;
         if self.flat.labels.len() >= self.header.states {
@@ -126,11 +129,12 @@ impl Loader<'_> {
         Ok(Record::State(labels))
     }
 
-    // A choice: the row before it sums up (9), and there are few enough (11).
-    fn read_choice(&self) -> Result<Record, LineFault>
-        ensures read { (before : List Line) (line : Line) → Follows self.now before → RestRead kind.Choice before line result }
+    // A choice: it has its fields (4), the row before it sums up (9), and there are few enough (11).
+    fn read_choice(&self, line: &[u8]) -> Result<Record, LineFault>
+        ensures read { RestRead kind.Choice self.now (fields line.now) result }
         ensures admitted { IfOk result (Admits self.now) }
     {
+        check_fields(line, Word::Choice)?;
         self.check_row()?;
         if self.flat.offsets.len() >= CHOICES {
             return Err(LineFault::Choices);
@@ -140,17 +144,19 @@ impl Loader<'_> {
 
     // Is the target a state, and the weight 1 to the denominator?
     fn branch_in_range(&self, target: usize, weight: u32) -> bool
-        ensures { result ≡ (nat_lt target self.now.header.states && between 1 self.now.header.denominator weight) }
+        ensures { result ≡ (nat_lt target self.now.header.states
+            && between 1 self.now.header.denominator weight) }
     {
         target < self.header.states && (1..=self.header.denominator).contains(&weight)
     }
 
-    // A branch: its numbers are lawful (5) and in range (6), its target is above the last of its row (8), and there
-    // are few enough (12).
+    // A branch: it has its fields (4), its numbers are lawful (5) and in range (6), its target is above the last of its
+    // row (8), and there are few enough (12).
     fn read_branch(&self, line: &[u8]) -> Result<Record, LineFault>
-        ensures read { (before : List Line) → Follows self.now before → RestRead kind.Branch before (fields line.now) result }
+        ensures read { RestRead kind.Branch self.now (fields line.now) result }
         ensures admitted { IfOk result (Admits self.now) }
     {
+        check_fields(line, Word::Branch)?;
         let (number, weight) = two_numbers(line)?;
         let target = number as usize;
         if !self.branch_in_range(target, weight) {
@@ -165,26 +171,30 @@ impl Loader<'_> {
         Ok(Record::Branch(Branch { target, weight }))
     }
 
-    // The end: the row before it sums up (9).
-    fn read_end(&self) -> Result<Record, LineFault>
-        ensures read { (before : List Line) (line : Line) → Follows self.now before → RestRead kind.End before line result }
+    // The end: it has its fields (4), and the row before it sums up (9).
+    fn read_end(&self, line: &[u8]) -> Result<Record, LineFault>
+        ensures read { RestRead kind.End self.now (fields line.now) result }
         ensures admitted { IfOk result (Admits self.now) }
     {
+        check_fields(line, Word::End)?;
         self.check_row()?;
         Ok(Record::End)
     }
 
-    // What a line says, if no question refuses it (3 to 12).
+    // What a line says, if no question refuses it (3 to 12). The word of the line before and the word of this line decide
+    // together whether it may stand here (3), and which reader asks the other questions.
     pub(crate) fn read_line(&self, line: &[u8]) -> Result<Record, LineFault>
         ensures read { (before : List Line) → Follows self.now before → LineRead before (fields line.now) result }
         ensures admitted { IfOk result (Admits self.now) }
     {
-        match next_word(self.last, line)? {
-            Word::Mdp => read_header(line),
-            Word::State => self.read_state(line),
-            Word::Choice => self.read_choice(),
-            Word::Branch => self.read_branch(line),
-            Word::End => self.read_end(),
+        let word = Word::try_from(field(line, 0))?;
+        match (self.last, word) {
+            (None, Word::Mdp) => read_header(line),
+            (Some(Word::Mdp | Word::Branch), Word::State) => self.read_state(line),
+            (Some(Word::State | Word::Branch), Word::Choice) => self.read_choice(line),
+            (Some(Word::Choice | Word::Branch), Word::Branch) => self.read_branch(line),
+            (Some(Word::Branch), Word::End) => self.read_end(line),
+            _ => Err(LineFault::Word),
         }
     }
 }

@@ -79,7 +79,8 @@ impl<'a> Loader<'a> {
     // Reads line number `number` into the arrays, or finds the fault of the text.
     pub(crate) fn read_step(&mut self, line: &[u8], number: usize) -> Result<(), FileFault>
         ensures same_reference { self.new.flat.ghost_name ≡ self.old.flat.ghost_name }
-        ensures read { (before : List Line) → Follows self.old before → StepRead before number (fields line.now) self.old self.new result }
+        ensures read { (before : List Line) → Follows self.old before
+            → StepRead before number (fields line.now) self.old self.new result }
     {
         let record = self.read_line(line).map_err(|fault| Numbered {
             line: number,

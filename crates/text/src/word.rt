@@ -1,5 +1,5 @@
 ghost use Rattle.std.specs.Prelude.{◌≡◌};
-ghost use Rattle.text.specs.Words.{word_read, listed, followers, arity};
+ghost use Rattle.text.specs.Words.{word_read, arity};
 
 use crate::fault::LineFault;
 
@@ -33,21 +33,6 @@ impl<'a> TryFrom<&'a [u8]> for Word {
 }
 
 impl Word {
-    // May a line with this word follow one with the word `last`, or start the text where there is none?
-    // The state of a loader (the last word) and the record's word are matched together, by a rule of the project.
-    pub fn may_follow(self, last: Option<Word>) -> bool
-        ensures { result ≡ listed self (followers last) }
-    {
-        match (last, self) {
-            (None, Word::Mdp)
-            | (Some(Word::Mdp | Word::Branch), Word::State)
-            | (Some(Word::State | Word::Branch), Word::Choice)
-            | (Some(Word::Choice | Word::Branch), Word::Branch)
-            | (Some(Word::Branch), Word::End) => true,
-            _ => false,
-        }
-    }
-
     // How many fields a line with this word has, the word among them.
     pub fn fields(self) -> usize
         ensures { result ≡ arity self }
