@@ -12,7 +12,8 @@ use Rattle.printing.specs.Carets.{refusal_text}
 use Rattle.printing.specs.Layouts.{state_of, model_content}
 use Rattle.console.specs.declared.command.Form.{Form}
 use Rattle.limits_text.specs.declared.outcome.Outcome.{Outcome}
-use Rattle.limits_text.specs.Lists.{Written, nothing, LinesWritten, LinesBegun, ListReported, Writes, list_lines, formula_count}
+use Rattle.limits_text.specs.Lines.{list_lines}
+use Rattle.limits_text.specs.Lists.{Written, nothing, LinesWritten, LinesBegun, ListReported, Writes, formula_count}
 use Rattle.console.specs.Replies.{Answer, printed, refused, Gives, in_form, form_answer, TextFound, TextAnswer, LimitsBegun}
 
 -- what the model of a content has is that content

@@ -52,7 +52,7 @@ ends_printed (Some ends) s lo hi few low high a b c d e =
     decimal_injective (ends.0 s) lo (omega (arith, few.0)) (omega arith) (ap (λ ws. get_or ws 2 []) e),
     decimal_injective (ends.1 s) hi (omega (arith, few.1)) (omega arith) (ap (λ ws. get_or ws 3 []) e))
 
-module _ (m : Mdp) (l : Lawful m) (f : Formula) (spelled : Spelled f) (few : (s : ℕ) → s < 512 → FewUnits (units_at (ends_of m f) s)) where
+module _ (m : Mdp) (l : Lawful m) (f : Formula) (spelled : Spelled f) (few : (s : ℕ) → s < m.states → FewUnits (units_at (ends_of m f) s)) where
   -- the report of the formula
   abbrev report : List ℕ
   report = formula_report (print f) (row_of m f) (ends_of m f)
@@ -61,8 +61,7 @@ module _ (m : Mdp) (l : Lawful m) (f : Formula) (spelled : Spelled f) (few : (s 
   words_there : (s : ℕ) → s < m.states → state_words report s ≡ decimal s ∷ verdict_word (get_or (row_of m f) s 0) ∷ end_words (units_at (ends_of m f) s)
   words_there s h =
       let long = row_length m f in
-      let most = l.few_states in
-      report_words (ends_of m f) few (print f) (row_of m f) (lacks_low 10 (omega arith) (print f) (print_graphic f spelled)) (omega arith) s (omega arith)
+      report_words (ends_of m f) m.states l.few_states few (print f) (row_of m f) (lacks_low 10 (omega arith) (print f) (print_graphic f spelled)) long s (omega (arith, long))
 
   -- the byte of a state is that of the verdict that is printed there
   word_there : (s : ℕ) → s < m.states → (verdict : List ℕ) → PrintsVerdict report f s verdict → verdict_word (get_or (row_of m f) s 0) ≡ verdict
@@ -78,8 +77,7 @@ module _ (m : Mdp) (l : Lawful m) (f : Formula) (spelled : Spelled f) (few : (s 
     yes_holds = λ s h prints. (byte_there s h).yes_holds (yes_byte _ (word_there s h (codes "yes") prints));
     no_fails = λ s h prints. (byte_there s h).no_fails (no_byte _ (word_there s h (codes "no") prints));
     ends_bound = λ s lo hi h prints.
-        let most = l.few_states in
-        let ends = ends_printed (ends_of m f) s lo hi (few s (omega arith)) prints.lower_within prints.upper_within _ _ _ _ (sym (words_there s h) ∙ prints.line) in
+        let ends = ends_printed (ends_of m f) s lo hi (few s h) prints.lower_within prints.upper_within _ _ _ _ (sym (words_there s h) ∙ prints.line) in
         subst (λ x. BoundsFormula m f s x hi) ends.2 (subst (λ x. BoundsFormula m f s (ends.0.0 s) x) ends.3 (formula_ends_bound m l f ends.0 ends.1 s h));
     one_set = one_set m l;
   }

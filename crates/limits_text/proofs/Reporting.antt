@@ -6,7 +6,8 @@ use Rattle.std.proofs.KnownBytes.{Appends-nil, Appends-trans}
 use Rattle.std.proofs.lemmas.List.{at_drop_more, drop_all, take_all}
 use Rattle.model.specs.Mdp.{Mdp}
 use Rattle.limits_text.specs.declared.outcome.Outcome.{Outcome}
-use Rattle.limits_text.specs.Lists.{Written, nothing, and_more, AppendsFront, LineTorn, LineWritten, LinesWritten, LineBegun, LinesBegun, LineReported, ListReported, ListBegun, Writes, list_lines, is_formula, formula_count, progress_before}
+use Rattle.limits_text.specs.Lines.{list_lines}
+use Rattle.limits_text.specs.Lists.{Written, nothing, and_more, AppendsFront, LineTorn, LineWritten, LinesWritten, LineBegun, LinesBegun, LineReported, ListReported, ListBegun, Writes, is_formula, formula_count, progress_before}
 
 -- k lines of all are reported, over the model m with n formulas, to writers that had o and p
 pub record ReportedTo (m : Mdp) (n : ℕ) (all : List (List ℕ)) (k : ℕ) (o o' p p' : Option (List ℕ)) (outcomes : List Outcome) : Type 0 where

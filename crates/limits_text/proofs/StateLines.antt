@@ -113,17 +113,17 @@ body_lacks s b ends few units =
 line_ends : (s b : ℕ) (ends : Option (ℕ × ℕ)) (more tail : List ℕ) → (state_line s b ends ++ more) ++ tail ≡ body s b ends ++ (10 ∷ (more ++ tail))
 line_ends s b ends more tail = simp append_assoc refl
 
-module _ (two : Option TwoEnds) (few : (s : ℕ) → s < 512 → FewUnits (units_at two s)) where
+module _ (two : Option TwoEnds) (n : ℕ) (most : n ≤ 512) (few : (s : ℕ) → s < n → FewUnits (units_at two s)) where
   -- the lines of some states, from state i on
   abbrev lines_from : ℕ → List ℕ → List ℕ
   lines_from i row = laid (λ s b. state_line s b (units_at two s)) i row
 
   -- among them stands that of each state
-  line_there : (i : ℕ) (row : List ℕ) (tail : List ℕ) (s : ℕ) → i + length row ≤ 512 → s < length row →
+  line_there : (i : ℕ) (row : List ℕ) (tail : List ℕ) (s : ℕ) → i + length row ≤ n → s < length row →
       get_or (pieces 10 (lines_from i row ++ tail)) s [] ≡ body (i + s) (get_or row s 0) (units_at two (i + s))
   line_there i [] tail s within there = absurd (omega arith)
   line_there i (b ∷ row) tail s within there =
-      let small : i < 512 = omega arith in
+      let small : i < n = omega arith in
       let cut : pieces 10 (lines_from i (b ∷ row) ++ tail) ≡ body i b (units_at two i) ∷ pieces 10 (lines_from (i + 1) row ++ tail) =
       ap (pieces 10) (line_ends i b (units_at two i) (lines_from (i + 1) row) tail)
       ∙ pieces_parted 10 (body i b (units_at two i)) (lines_from (i + 1) row ++ tail) (body_lacks i b (units_at two i) (omega arith) (few i small)) in
@@ -161,10 +161,10 @@ module _ (two : Option TwoEnds) (few : (s : ℕ) → s < 512 → FewUnits (units
     report_begins = ap (λ ps. get_or ps 0 []) report_cut.1
 
     -- the words in the line of a state
-    pub report_words : length row ≤ 512 → (s : ℕ) → s < length row →
+    pub report_words : length row ≡ n → (s : ℕ) → s < length row →
         state_words (formula_report text row two) s ≡ decimal s ∷ verdict_word (get_or row s 0) ∷ end_words (units_at two s)
     report_words long s there =
-        let small : s < 512 = omega arith in
+        let small : s < n = omega arith in
         ap (λ ps. words (get_or ps (s + 2) [])) report_cut.1
         ∙ ap words (behind_two s (pieces 10 (lines_from 0 row ++ (counts_text (counts_of row) ++ codes "\n"))) ∙ line_there 0 row (counts_text (counts_of row) ++ codes "\n") s (omega arith) there ∙ ap (λ k. body k (get_or row s 0) (units_at two k)) (zero-add s))
         ∙ body_words s (get_or row s 0) (units_at two s) (omega arith) (few s small)

@@ -3,16 +3,11 @@ use Rattle.std.specs.Prelude.{◌≡◌, ℕ, ◌+◌, ◌⊎◌, Bool, true, fa
 use Rattle.std.specs.Io.{StartsWith}
 use Rattle.std.specs.Io.KnownBytes.{Appends}
 use Rattle.model.specs.Mdp.{Mdp}
-use Rattle.text.specs.Cuts.{pieces}
 use Rattle.limits_text.specs.declared.item.Item.{Item}
 use Rattle.limits_text.specs.declared.item.Item.TheVariants.{Nothing, Heading, Formula}
 use Rattle.limits_text.specs.declared.outcome.Outcome.{Outcome}
-use Rattle.limits_text.specs.Lines.{item_of}
+use Rattle.limits_text.specs.Lines.{list_lines, item_of}
 use Rattle.limits_text.specs.Reports.{LineAnswer}
-
--- the lines of a list: an LF (10) parts two of them
-abbrev pub list_lines : List ℕ → List (List ℕ)
-list_lines list = pieces 10 list
 
 -- is it a formula?
 abbrev pub formula_item : Item → Bool

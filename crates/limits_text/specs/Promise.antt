@@ -7,7 +7,7 @@ use Rattle.theory.specs.Formulas.{Formula, Holds, HasOneSet}
 use Rattle.theory.specs.Found.{BoundsFormula}
 use Rattle.text.specs.Cuts.{pieces, piece}
 use Rattle.grammar.specs.Spelling.{print, Spelled}
-use Rattle.limits_text.specs.Lists.{list_lines}
+use Rattle.limits_text.specs.Lines.{list_lines}
 
 -- the words of a line: what stands between its blanks (32)
 abbrev pub words : List ℕ → List (List ℕ)

@@ -2,7 +2,7 @@
 use Rattle.std.specs.Prelude.{◌≡◌, ℕ, cond, List, [], ◌++◌, map, Some, None, Err, codes, decimal, Option}
 use Rattle.model.specs.Mdp.{Mdp}
 use Rattle.theory.specs.Formulas.{Formula}
-use Rattle.theory.specs.Found.{JudgedRightly, TwoEnds, ends_of}
+use Rattle.theory.specs.Found.{TwoEnds, ends_of}
 use Rattle.grammar.specs.Spelling.{print}
 use Rattle.records.specs.declared.fault.JudgeFault.{JudgeFault}
 use Rattle.formula.specs.Answers.{CountAnswer}
@@ -16,6 +16,7 @@ use Rattle.limits_text.specs.declared.item.Item.{Item}
 use Rattle.limits_text.specs.declared.item.Item.TheVariants as item
 use Rattle.limits_text.specs.Lines.{item_of}
 use Rattle.limits_text.specs.Tables.{table}
+use Rattle.limits_text.specs.Promise.{Promise}
 use Rattle.limits_text.specs.Outcomes.{counts_of, counts_text, outcome_of, same_outcome, OutcomeMeans}
 
 -- a formula's text, the table of its row and its ends, the counts of the row, and an empty line
@@ -26,14 +27,14 @@ formula_report text row ends = text ++ (codes "\n" ++ (table row ends ++ (counts
 abbrev pub refusal_report : JudgeFault → List ℕ → List ℕ
 refusal_report e text = judge_refusal e text ++ codes "\n"
 
--- the text spells a formula within the limits; the bytes are its report and the outcome is that of its row; the formula is judged rightly, and the
--- outcome means what it says
+-- the text spells a formula within the limits; the bytes are its report, and keep the promise of one; the outcome is that of its row,
+-- and means what it says
 pub record JudgedReport (m : Mdp) (text bytes : List ℕ) (o : Outcome) : Type 0 where
   pub formula : Formula
   pub reads : Reads text lent_records formula
   pub report : bytes ≡ formula_report (print formula) (row_of m formula) (ends_of m formula)
+  pub promise : Promise m formula bytes
   pub outcome : o ≡ outcome_of (counts_of (row_of m formula))
-  pub rightly : JudgedRightly m formula
   pub means : OutcomeMeans m formula o
 
 -- the text spells no formula within the limits; the bytes are its refusal

@@ -1,6 +1,7 @@
 ghost use Rattle.std.specs.Prelude.{◌≡◌, map, count_by, IfOk, OnOk, OnErr, string_bytes};
 ghost use Rattle.std.specs.Io.KnownBytes.{Appends};
-ghost use Rattle.limits_text.specs.Lists.{list_lines, is_formula, progress_line, progress_before, AppendsFront, LineReported, LineTorn, ListReported, ListBegun, Writes};
+ghost use Rattle.limits_text.specs.Lines.{list_lines};
+ghost use Rattle.limits_text.specs.Lists.{is_formula, progress_line, progress_before, AppendsFront, LineReported, LineTorn, ListReported, ListBegun, Writes};
 
 use crate::item::Item;
 use crate::outcome::Outcome;

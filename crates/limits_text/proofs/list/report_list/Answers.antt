@@ -2,7 +2,8 @@ use Rattle.std.proofs.Common.{◌≡◌, ℕ, ◌<◌, ◌≤◌, ◌++◌, map,
 use Rattle.std.proofs.lemmas.List.{length-map, get_or-map, map-id}
 use Rattle.std.proofs.lemmas.Iterator.Adapters.{fact_from_extend, YieldsList-from_once}
 use Rattle.limits_text.specs.declared.outcome.Outcome.{Outcome}
-use Rattle.limits_text.specs.Lists.{is_formula, list_lines}
+use Rattle.limits_text.specs.Lines.{list_lines}
+use Rattle.limits_text.specs.Lists.{is_formula}
 use Rattle.limits_text.proofs.Writing.{after_error}
 use Rattle.limits_text.proofs.Reporting.{reported_none, reported_more, reported_all, torn_first, torn_told, torn_report, torn_kept, begun_of_list}
 use Rattle.limits_text.proofs.list.report_list.Goals as goal
