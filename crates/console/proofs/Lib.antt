@@ -1,3 +1,4 @@
 pub mod Ladders
 pub mod Parts
 pub mod Returning
+pub mod Promising

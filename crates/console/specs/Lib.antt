@@ -1,3 +1,4 @@
 pub mod Commands
 pub mod Helps
 pub mod Replies
+pub mod Promise

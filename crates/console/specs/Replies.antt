@@ -17,8 +17,9 @@ use Rattle.calls_text.specs.Prints.{printed as calls_printed}
 use Rattle.calls_text.specs.VerdictEnds.{VerdictsReadOff}
 use Rattle.flat.specs.Flats.{content}
 use Rattle.ladder.specs.Makes.{model_of as ladder_model_of}
+use Rattle.limits_text.specs.declared.outcome.Outcome.{Outcome}
 use Rattle.limits_text.specs.declared.summary.Summary.{Summary}
-use Rattle.limits_text.specs.Lists.{Written, nothing, ListWritten, ListBegun}
+use Rattle.limits_text.specs.Lists.{Written, nothing, ListReported, ListBegun}
 use Rattle.limits_text.specs.Summaries.{summary_of, summary_text}
 use Rattle.console.specs.declared.found.Found.{Found}
 use Rattle.console.specs.declared.found.Found.TheVariants as found
@@ -162,7 +163,7 @@ summary_answer s = cond (s.refused == 0) (printed (summary_text s)) (refused (su
 abbrev pub LimitsAnswer : List ℕ → Option (List ℕ) → Result Mdp Answer → Written → Answer → Type 0
 LimitsAnswer path list (Err b) w a = (w ≡ nothing) × (a ≡ b)
 LimitsAnswer path None (Ok m) w a = (w ≡ nothing) × (a ≡ wrong (no_file_text path))
-LimitsAnswer path (Some list) (Ok m) w a = ListWritten m list w × (a ≡ summary_answer (summary_of w.outcomes))
+LimitsAnswer path (Some list) (Ok m) w a = (outcomes : List Outcome) × ListReported m list outcomes w × (a ≡ summary_answer (summary_of outcomes))
 
 -- the same by the name of the model
 abbrev pub CheckAnswer : ModelName → List ℕ → Option (List ℕ) → List ℕ → Option (List ℕ) → Written → Answer → Type 0

@@ -51,11 +51,8 @@ pub fn path(args: &[String], file: usize) -> Option<&str>
     }
 }
 
-// The reply to the words of the command line, after the program's name, given the bytes of files 0 and 1 at the paths that they
-// want read, if these could be read. The reports of a list of limits are written as they are made, and their progress is told: to
-// two writers, which the program has one by one and a test may give of two types. Where there is no memory or a write fails, a
-// beginning of this was written and told.
-pub fn reply<W: Write, P: Write>(
+// The reply to the words of the command line, as `promise::reply` gives it.
+pub(crate) fn reply_to<W: Write, P: Write>(
     heap: Global,
     args: &[String],
     file: Option<&[u8]>,

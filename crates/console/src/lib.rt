@@ -13,6 +13,7 @@ pub mod help;
 mod named;
 mod names;
 pub mod parse;
+pub mod promise;
 pub mod reply;
 mod report;
 mod rounds_reply;

@@ -1,7 +1,8 @@
 // The program: the console joined to arguments, files and streams. It may use the console crate.
 #![tactic(auto)]
 
-use console::answer::{path, reply};
+use console::answer::path;
+use console::promise::reply;
 use console::reply::Reply;
 use std::io::Write;
 use std::process::ExitCode;

@@ -9,3 +9,4 @@ pub mod Writing
 pub mod Pieces
 pub mod StateLines
 pub mod Promising
+pub mod KeptPromises

@@ -4,10 +4,11 @@ use Rattle.std.specs.Io.{StartsWith}
 use Rattle.std.specs.Io.KnownBytes.{Appends}
 use Rattle.std.proofs.KnownBytes.{Appends-nil, Appends-trans}
 use Rattle.std.proofs.lemmas.List.{at_drop_more, drop_all, take_all}
-use Rattle.model.specs.Mdp.{Mdp}
+use Rattle.model.specs.Mdp.{Mdp, Lawful}
 use Rattle.limits_text.specs.declared.outcome.Outcome.{Outcome}
 use Rattle.limits_text.specs.Lines.{list_lines}
 use Rattle.limits_text.specs.Lists.{Written, nothing, and_more, AppendsFront, LineTorn, LineWritten, LinesWritten, LineBegun, LinesBegun, LineReported, ListReported, ListBegun, Writes, is_formula, formula_count, progress_before}
+use Rattle.limits_text.proofs.KeptPromises.{list_keeps}
 
 -- k lines of all are reported, over the model m with n formulas, to writers that had o and p
 pub record ReportedTo (m : Mdp) (n : ℕ) (all : List (List ℕ)) (k : ℕ) (o o' p p' : Option (List ℕ)) (outcomes : List Outcome) : Type 0 where
@@ -132,13 +133,14 @@ module _ (m : Mdp) (n : ℕ) (all : List (List ℕ)) (k : ℕ) (o o' p p' : Opti
       }
 
 -- where the lines of a list are all reported, the list is
-pub reported_all : (m : Mdp) (list : List ℕ) (n : ℕ) (all : List (List ℕ)) (k : ℕ) (o o' p p' : Option (List ℕ)) (outcomes : List Outcome) → all ≡ list_lines list → n ≡ count_by is_formula all → ReportedTo m n all k o o' p p' outcomes → length all ≤ k → Writes (ListReported m list outcomes) o o' p p'
-reported_all m list n all k o o' p p' outcomes lines count r past =
+pub reported_all : (m : Mdp) → Lawful m → (list : List ℕ) (n : ℕ) (all : List (List ℕ)) (k : ℕ) (o o' p p' : Option (List ℕ)) (outcomes : List Outcome) → all ≡ list_lines list → n ≡ count_by is_formula all → ReportedTo m n all k o o' p p' outcomes → length all ≤ k → Writes (ListReported m list outcomes) o o' p p'
+reported_all m l list n all k o o' p p' outcomes lines count r past =
     let left = r.left nothing (subst (λ ls. LinesWritten m n (length r.written.outcomes) (k + 1) ls nothing) (sym (drop_all k all past)) refl) in
     let whole = subst (LinesWritten m n 0 1 all) (and_more_none r.written) left in
+    let written = subst (λ ls. LinesWritten m (count_by is_formula ls) 0 1 ls r.written) lines (subst (λ i. LinesWritten m i 0 1 all r.written) count whole) in
     record {
       written = r.written;
-      said = (subst (λ ls. LinesWritten m (count_by is_formula ls) 0 1 ls r.written) lines (subst (λ i. LinesWritten m i 0 1 all r.written) count whole), r.outcomes_are);
+      said = record { lines = written; promise = list_keeps m l list r.written written; outcomes_are = r.outcomes_are };
       out = r.out;
       progress = r.progress;
     }

@@ -7,6 +7,7 @@ use Rattle.limits_text.specs.declared.item.Item.{Item}
 use Rattle.limits_text.specs.declared.item.Item.TheVariants.{Nothing, Heading, Formula}
 use Rattle.limits_text.specs.declared.outcome.Outcome.{Outcome}
 use Rattle.limits_text.specs.Lines.{list_lines, item_of}
+use Rattle.limits_text.specs.Promise.{ListPromise}
 use Rattle.limits_text.specs.Reports.{LineAnswer}
 
 -- is it a formula?
@@ -61,9 +62,11 @@ LinesWritten m n i k (l ∷ ls) w = (first : Written) × (rest : Written) × Lin
 abbrev pub ListWritten : Mdp → List ℕ → Written → Type 0
 ListWritten m list w = LinesWritten m (formula_count list) 0 1 (list_lines list) w
 
--- what is written of a list, whose formulas have these outcomes
-abbrev pub ListReported : Mdp → List ℕ → List Outcome → Written → Type 0
-ListReported m list outcomes w = ListWritten m list w × (outcomes ≡ w.outcomes)
+-- what is written of a list, whose formulas have these outcomes; its reports keep their promise
+pub record ListReported (m : Mdp) (list : List ℕ) (outcomes : List Outcome) (w : Written) : Type 0 where
+  pub lines : ListWritten m list w
+  pub promise : ListPromise m list w.reports
+  pub outcomes_are : outcomes ≡ w.outcomes
 
 -- what has a property is written to two writers, which had the bytes o and p if these are known, and have o' and p' now
 pub record Writes (says : Written → Type 0) (o o' p p' : Option (List ℕ)) : Type 0 where

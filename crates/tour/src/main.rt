@@ -5,7 +5,8 @@
 mod lines;
 
 use crate::lines::{FILES, SECTIONS};
-use console::answer::{path, reply};
+use console::answer::path;
+use console::promise::reply;
 use console::reply::Reply;
 use layers::hold::Hold;
 use model::limits::TEXT_BYTES;

@@ -31,7 +31,7 @@ returns-clause-whole g c =
     let formulas : c.formula_count-formulas.result ≡ count_by is_formula (map (λ p. p.now) lines) =
     c.formula_count-formulas.ensures ∙ ap (λ l. count_by is_formula (map (λ p. p.now) l)) (c.as_slice.ensures.value ∙ sym c.deref-line-items.ensures.value) in
     let past : length (map (λ p. p.now) lines) ≤ c.loop-index.index = omega (arith, length-map lines (λ p. p.now), c.loop-index-test.false) in
-    reported_all _ c.args.list.now _ _ _ _ _ _ _ _ all formulas c.loop-index.invariant past
+    reported_all _ (g.S.Source.lawful c.args.source.now) c.args.list.now _ _ _ _ _ _ _ _ all formulas c.loop-index.invariant past
 
 -- nothing is written where there is no memory for the lines
 pub returns-in_err-lines-clause-begun : goal.returns-in_err-lines-clause-begun

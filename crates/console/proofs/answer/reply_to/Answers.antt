@@ -1,6 +1,6 @@
 use Rattle.std.proofs.Common.{rules}
 use Rattle.console.proofs.Returning.{writes_nothing, after_error}
-use Rattle.console.proofs.answer.reply.Goals as goal
+use Rattle.console.proofs.answer.reply_to.Goals as goal
 
 -- nothing is written
 pub returns-in_ok-from_str-in-Ok-Help-clause-whole : goal.returns-in_ok-from_str-in-Ok-Help-clause-whole
