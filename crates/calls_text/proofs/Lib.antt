@@ -1,3 +1,4 @@
 pub mod Spellings
 pub mod Reading
 pub mod VerdictEnds
+pub mod Holding

@@ -1,5 +1,5 @@
 -- The lines of a text of calls are read one after the other.
-use Rattle.std.proofs.Common.{◌≡◌, ℕ, ◌+◌, ◌<◌, false, not, ◌||◌, eqb, List, [], ◌∷◌, ◌++◌, map, length, get_or, drop, Some, None, Ok, Err, Option, Result, sym, refl, ap, ap₂, ◌∙◌, append_assoc, append-nil, zero-add, Bor, arith}
+use Rattle.std.proofs.Common.{◌≡◌, ℕ, ◌+◌, ◌<◌, false, not, ◌||◌, eqb, List, [], ◌∷◌, ◌++◌, map, length, get_or, drop, Some, None, Ok, Err, Option, Result, sym, refl, ap, ap₂, ◌∙◌, append_assoc, append-nil, Bor, arith}
 use Rattle.std.specs.Result.{result_map_both}
 use Rattle.std.specs.Iterator.{Yields}
 use Rattle.std.specs.List.{list_any, flat_map, slice_split, enumerate_from}

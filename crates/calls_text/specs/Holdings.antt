@@ -1,5 +1,5 @@
 -- What comes of the states that a text of calls asks to be held.
-use Rattle.std.specs.Prelude.{ℕ, List, [], ◌∷◌, ◌++◌, cond, Ok, Err, Result, codes, nat_lt}
+use Rattle.std.specs.Prelude.{◌≡◌, ℕ, ◌≤◌, List, [], ◌∷◌, ◌++◌, length, take, cond, Ok, Err, Result, codes, nat_lt}
 use Rattle.std.specs.List.{flat_map}
 use Rattle.model.specs.Mdp.{Mdp}
 use Rattle.layers.specs.declared.fault.HoldFault.{HoldFault}
@@ -24,3 +24,9 @@ holds_text n states = flat_map (λ s. hold_text (hold_answer n s)) states
 abbrev pub all_held : List ℕ → Mdp → Mdp
 all_held [] m = m
 all_held (s ∷ states) m = all_held states (cond (nat_lt s m.states) (held s m) m)
+
+-- the model after is the one before with the states of some beginning of the list held, those of them that there are
+pub record HoldsFront (before after : Mdp) (states : List ℕ) : Type 0 where
+  pub number : ℕ
+  pub within : number ≤ length states
+  pub model : after ≡ all_held (take number states) before

@@ -1,4 +1,4 @@
-use Rattle.std.proofs.Common.{◌≡◌, drop, take, string_bytes}
+use Rattle.std.proofs.Common.{◌≡◌, take, string_bytes}
 use Rattle.layers.specs.Holds.{held_model}
 use Rattle.calls_text.specs.Holdings.{holds_text, all_held}
 use Rattle.calls_text.proofs.hold.hold_states.Given as goal
@@ -10,5 +10,5 @@ invariant-loop-state g l =
     record {
       told : string_bytes l.out ≡ holds_text m.states (take l.state-index l.states);
       below : l.layer.below ≡ l.fn.layer.below;
-      model : all_held (drop l.state-index l.states) (held_model m l.layer.held) ≡ all_held l.states (held_model m l.fn.layer.held);
+      model : held_model (g.S.Source.model l.layer.below) l.layer.held ≡ all_held (take l.state-index l.states) (held_model m l.fn.layer.held);
     }
