@@ -1,5 +1,5 @@
 -- The answers of `check` keep its promise.
-use Rattle.std.proofs.Common.{◌≡◌, ℕ, inl, inr, List, [], Option, None, Some, Result, Ok, Err, OnOk, IfOk, MatchOption, sym, refl, ap, ◌∙◌, subst}
+use Rattle.std.proofs.Common.{◌≡◌, ℕ, ◌⊎◌, inl, inr, List, [], Option, None, Some, Result, Ok, Err, OnOk, IfOk, MatchOption, sym, refl, ap, ◌∙◌, subst}
 use Rattle.model.specs.Mdp.{Mdp}
 use Rattle.text.specs.Contents.{Content, model_of}
 use Rattle.text.specs.declared.fault.FileFault.{FileFault}

@@ -5,14 +5,13 @@ use native.Mathlib.Nat.{one-le-pow}
 use Rattle.model.specs.Mdp.{Mdp, Lawful}
 use Rattle.theory.specs.Adversaries.{Adversary, Allowed}
 use Rattle.theory.specs.Tallies.{tally, next_tally}
-use Rattle.theory.specs.Rounds.{rounds}
-use Rattle.theory.specs.Mixes.{whole, greater, lesser, mix_down, mix_up}
+use Rattle.theory.specs.Mixes.{whole, greater, lesser}
 use Rattle.theory.specs.Ends.{lower, upper, next_lower, next_upper, BoundsBest, BoundsWorst}
 use Rattle.theory.specs.WithoutSteps.{Extremal, over_none, at_most_none, at_least_whole, WithoutSteps}
 use Rattle.theory.specs.Formulas.{PathFormula, PathHolds, probability, until_within, until, extremal, Under, Comparison, below, at_most, above, at_least, Formula, truth, label, negation, conjunction, next, Fits, SetOf, Holds}
 use Rattle.theory.specs.Verdicts.{Correct, fits, VerdictSets, read_off, next_verdicts, until_within_verdicts, asked, harder_end, easier_end}
 use Rattle.theory.specs.Distances.{Harder}
-use Rattle.theory.specs.Found.{until_verdicts, path_verdicts, extremal_verdicts, verdicts, TwoEnds, ends_of, BoundsBy, BoundsFormula, FormulaEndsBound}
+use Rattle.theory.specs.Found.{until_verdicts, path_verdicts, extremal_verdicts, verdicts, TwoEnds, BoundsBy, BoundsFormula, FormulaEndsBound}
 use Rattle.theory.proofs.Ends.{best_none_above, best_some, worst_none_below, worst_some}
 use Rattle.theory.proofs.Between.{Subset, tally_below, next_below, next_none_above, next_none_below, next_best_some, next_worst_some}
 use Rattle.theory.proofs.Compare.{fits_test, fits_harder, fits_times, fits_part}
@@ -224,5 +223,5 @@ formula_ends_bound m l (probability c b (until_within k f g)) ends e s p =
     let w = verdicts m g in
     let same : (lower (asked c) v.sure w.sure k m, upper (asked c) v.possible w.possible k m) ≡ ends = cc in
     subst (λ (x : TwoEnds). BoundsFormula m (probability c b (until_within k f g)) s (x.0 s) (x.1 s)) same
-        (λ left right x y. until_bounds m l s p v w left right (own_among m l f left x) (own_among m l g right y) k c)
+    (λ left right x y. until_bounds m l s p v w left right (own_among m l f left x) (own_among m l g right y) k c)
 formula_ends_bound m l (probability c b (until f g)) ends e s p = absurd cc

@@ -68,14 +68,14 @@ pub record WorstEnds (g : ℕ) (m : Mdp) (tallied : Adversary → ℕ) (all lo h
 abbrev pub EndsBound : Type 0
 EndsBound = (left right : ℕ → Bool) (m : Mdp) → Lawful m → (k s : ℕ) → s < m.states →
     BestEnds k m (λ σ. tally left right k m σ s) (m.denominator ^ k)
-        (lower greater left right k m s) (upper greater left right k m s)
+    (lower greater left right k m s) (upper greater left right k m s)
     × WorstEnds k m (λ σ. tally left right k m σ s) (m.denominator ^ k)
-        (lower lesser left right k m s) (upper lesser left right k m s)
+    (lower lesser left right k m s) (upper lesser left right k m s)
 
 -- the theorem of a next's ends: after its one round the gap is at most one unit
 abbrev pub NextEndsBound : Type 0
 NextEndsBound = (set : ℕ → Bool) (m : Mdp) → Lawful m → (s : ℕ) → s < m.states →
     BestEnds 1 m (λ σ. next_tally set m σ s) (m.denominator ^ 1)
-        (next_lower greater set m s) (next_upper greater set m s)
+    (next_lower greater set m s) (next_upper greater set m s)
     × WorstEnds 1 m (λ σ. next_tally set m σ s) (m.denominator ^ 1)
-        (next_lower lesser set m s) (next_upper lesser set m s)
+    (next_lower lesser set m s) (next_upper lesser set m s)
