@@ -30,8 +30,3 @@ module _ (m first : Mdp) (states : List ℕ) (i : ℕ) (there : i < length state
   -- so it holds the states of a beginning of the list
   pub front_held : held_model m before ≡ all_held (take i states) first → Ran m (get_or states i 0) before after r → HoldsFront first (held_model m after) states
   front_held held_so_far ran = record { number = i + 1; within = omega arith; model = one_more_held held_so_far ran }
-
--- what holds anyway holds after an error
-pub after_error : {A E : Type 0} {P : Type 0} (r : Result A E) → P → OnErr r P
-after_error (Ok x) p = tt
-after_error (Err e) p = p

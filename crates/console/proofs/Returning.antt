@@ -42,11 +42,6 @@ refused_text on text f a is e =
 pub writes_nothing : (says : Written → Type 0) (o p : Option (List ℕ)) → says nothing → Writes says o o p p
 writes_nothing says o p said = record { written = nothing; said = said; out = Appends-nil o; progress = Appends-nil p }
 
--- what holds anyway holds after an error
-pub after_error : {A E : Type 0} {P : Type 0} (r : Result A E) → P → OnErr r P
-after_error (Ok x) p = tt
-after_error (Err e) p = p
-
 -- what is written of some lines is a beginning of it
 lines_begun : (m : Mdp) (n i k : ℕ) (ls : List (List ℕ)) (w : Written) → LinesWritten m n i k ls w → LinesBegun m n i k ls w
 lines_begun m n i k [] w h = h

@@ -44,8 +44,3 @@ written_front {o} {o'} {text} {at} w = record {
 -- nothing is a beginning of a text
 pub front_none : (o : Option (List ℕ)) (text : List ℕ) → AppendsFront o o text
 front_none o text = record { front = []; begins = refl; appended = Appends-nil o }
-
--- what holds anyway holds after an error
-pub after_error : {A E : Type 0} {P : Type 0} (r : Result A E) → P → OnErr r P
-after_error (Ok x) p = tt
-after_error (Err e) p = p

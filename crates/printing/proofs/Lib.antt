@@ -2,3 +2,4 @@ pub mod Cutting
 pub mod Laying
 pub mod Texts
 pub mod Counting
+pub mod Errors

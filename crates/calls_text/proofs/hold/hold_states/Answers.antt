@@ -1,6 +1,7 @@
 use Rattle.std.proofs.Common.{arith, rules}
 use Rattle.std.proofs.lemmas.Grind.{common_steps}
-use Rattle.calls_text.proofs.Holding.{one_more_held, front_held, after_error}
+use Rattle.printing.proofs.Errors.{after_error}
+use Rattle.calls_text.proofs.Holding.{one_more_held, front_held}
 use Rattle.calls_text.proofs.hold.hold_states.Goals as goal
 
 -- the states up to the one whose answer found no memory are held

@@ -1,5 +1,6 @@
 use Rattle.std.proofs.Common.{rules}
-use Rattle.console.proofs.Returning.{writes_nothing, after_error}
+use Rattle.printing.proofs.Errors.{after_error}
+use Rattle.console.proofs.Returning.{writes_nothing}
 use Rattle.console.proofs.answer.reply_to.Goals as goal
 
 -- nothing is written

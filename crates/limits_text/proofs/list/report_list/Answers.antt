@@ -4,7 +4,7 @@ use Rattle.std.proofs.lemmas.Iterator.Adapters.{fact_from_extend, YieldsList-fro
 use Rattle.limits_text.specs.declared.outcome.Outcome.{Outcome}
 use Rattle.limits_text.specs.Lines.{list_lines}
 use Rattle.limits_text.specs.Lists.{is_formula}
-use Rattle.limits_text.proofs.Writing.{after_error}
+use Rattle.printing.proofs.Errors.{after_error}
 use Rattle.limits_text.proofs.Reporting.{reported_none, reported_more, reported_all, torn_first, torn_told, torn_report, torn_kept, begun_of_list}
 use Rattle.limits_text.proofs.list.report_list.Goals as goal
 

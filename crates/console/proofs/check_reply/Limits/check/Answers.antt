@@ -1,5 +1,6 @@
 use Rattle.std.proofs.Common.{rules, inl, refl}
-use Rattle.console.proofs.Returning.{writes_nothing, after_error}
+use Rattle.printing.proofs.Errors.{after_error}
+use Rattle.console.proofs.Returning.{writes_nothing}
 use Rattle.console.proofs.check_reply.Limits.check.Goals as goal
 
 -- without a model nothing is written

@@ -1,5 +1,6 @@
 use Rattle.std.proofs.Common.{rules, inl, refl}
-use Rattle.console.proofs.Returning.{writes_nothing, after_error, whole_begun}
+use Rattle.printing.proofs.Errors.{after_error}
+use Rattle.console.proofs.Returning.{writes_nothing, whole_begun}
 use Rattle.console.proofs.check_reply.Limits.on.Goals as goal
 
 -- without a list nothing is written
