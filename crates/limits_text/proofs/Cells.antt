@@ -1,6 +1,7 @@
 -- What a hole with a width writes is a cell of a table.
 use Rattle.std.proofs.Common.{◌≡◌, ℕ, zero, suc, ◌-◌, ◌^◌, true, false, cond, eqb, List, [], ◌∷◌, replicate, refl, ap, append-nil, codes}
 use Rattle.std.proofs.Math.Nat.{sub-zero, sub_self}
+use Rattle.std.proofs.lemmas.Bool.{cond_both}
 use Rattle.std.specs.List.{repeat}
 use Rattle.std.specs.Fmt.{format_spec, padded_integral, padded, char_count, take_chars}
 use Rattle.limits_text.specs.Cells.{at_right, at_left}
@@ -20,7 +21,5 @@ right_written w digits = simp (sub-zero, blanks, sub_self, append-nil)
 pub word_written : (b : ℕ) → padded (format_spec 32 1 0 9 (2 ^ 64 - 1)) (verdict_word b) ≡ at_left 9 (verdict_word b)
 unfolding padded char_count take_chars lib.Utf8.encode
 word_written b =
-    elim (eqb b 0) as (λ x. padded (format_spec 32 1 0 9 (2 ^ 64 - 1)) (cond x (codes "no") (cond (eqb b 1) (codes "yes") (codes "undecided"))) ≡ at_left 9 (cond x (codes "no") (cond (eqb b 1) (codes "yes") (codes "undecided")))) [
-      | true ↦ refl
-      | false ↦ elim (eqb b 1) as (λ x. padded (format_spec 32 1 0 9 (2 ^ 64 - 1)) (cond x (codes "yes") (codes "undecided")) ≡ at_left 9 (cond x (codes "yes") (codes "undecided"))) [ true ↦ refl | false ↦ refl ]
-    ]
+    let P : List ℕ → Type 0 = λ word. padded (format_spec 32 1 0 9 (2 ^ 64 - 1)) word ≡ at_left 9 word in
+    cond_both (eqb b 0) _ _ P (λ e. refl) (λ e. cond_both (eqb b 1) _ _ P (λ e'. refl) (λ e'. refl))

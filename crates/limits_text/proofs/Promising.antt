@@ -1,8 +1,8 @@
 -- A report keeps the promise of its formula.
-use Rattle.std.proofs.Common.{◌≡◌, ℕ, zero, suc, ◌+◌, ◌^◌, ◌<◌, ◌≤◌, Bool, true, false, cond, eqb, leb, ◌&&◌, List, [], ◌∷◌, ◌++◌, length, get_or, Some, None, Option, codes, decimal, sym, refl, ap, ◌∙◌, subst, arith}
+use Rattle.std.proofs.Common.{◌≡◌, ◌≢◌, ℕ, inl, inr, zero, suc, ◌+◌, ◌^◌, ◌<◌, ◌≤◌, Bool, true, false, cond, eqb, leb, ◌&&◌, List, [], ◌∷◌, ◌++◌, length, get_or, Some, None, Option, codes, decimal, sym, refl, ap, ◌∙◌, subst, arith}
 use Rattle.std.specs.Prelude.{All}
 use Rattle.std.specs.List.{list_all}
-use Rattle.std.proofs.lemmas.Bool.{eqb-true}
+use Rattle.std.proofs.lemmas.Bool.{cases_Bool, cond_both, both_ways, eqb-true}
 use Rattle.std.proofs.lemmas.Fmt.{decimal_injective}
 use Rattle.model.specs.Mdp.{Mdp, Lawful}
 use Rattle.theory.specs.Mixes.{whole}
@@ -24,23 +24,29 @@ use Rattle.limits_text.proofs.StateLines.{lacks_low, FewUnits, end_words, report
 use Rattle.trial.proofs.Meanings.{row_means}
 use Rattle.trial.proofs.Evaluation.{row_length}
 
--- the word `yes` is that of the byte 1
-yes_byte : (b : ℕ) → verdict_word b ≡ codes "yes" → b ≡ 1
-yes_byte b e = by_tests (eqb b 0) (eqb b 1) refl refl e
-  where
-    by_tests : (x y : Bool) → eqb b 0 ≡ x → eqb b 1 ≡ y → cond x (codes "no") (cond y (codes "yes") (codes "undecided")) ≡ codes "yes" → b ≡ 1
-    by_tests true y f g e = absurd (let h : ◌≡◌ {A = ℕ} 110 121 = ap (λ w. get_or w 0 0) e in omega arith)
-    by_tests false true f g e = eqb-true b 1 g
-    by_tests false false f g e = absurd (let h : ◌≡◌ {A = ℕ} 117 121 = ap (λ w. get_or w 0 0) e in omega arith)
+-- two texts with another first byte are two
+others : (xs ys : List ℕ) → get_or xs 0 0 ≢ get_or ys 0 0 → xs ≢ ys
+others xs ys other e = other (ap (λ text. get_or text 0 0) e)
 
--- the word `no` is that of the byte 0
+-- the word `yes` is that of the byte 1 alone
+yes_byte : (b : ℕ) → verdict_word b ≡ codes "yes" → b ≡ 1
+yes_byte b e =
+    elim (cases_Bool (eqb b 1)) [
+      | inl one ↦ eqb-true b 1 one
+      | inr other ↦ absurd (cond_both (eqb b 0) _ _ (λ word. word ≢ codes "yes")
+          (λ none. others _ _ (omega arith))
+          (λ some. cond_both (eqb b 1) _ _ (λ word. word ≢ codes "yes") (λ one. absurd (both_ways (eqb b 1) other one)) (λ two. others _ _ (omega arith))) e)
+    ]
+
+-- the word `no` is that of the byte 0 alone
 no_byte : (b : ℕ) → verdict_word b ≡ codes "no" → b ≡ 0
-no_byte b e = by_tests (eqb b 0) (eqb b 1) refl e
-  where
-    by_tests : (x y : Bool) → eqb b 0 ≡ x → cond x (codes "no") (cond y (codes "yes") (codes "undecided")) ≡ codes "no" → b ≡ 0
-    by_tests true y f e = eqb-true b 0 f
-    by_tests false true f e = absurd (let h : ◌≡◌ {A = ℕ} 121 110 = ap (λ w. get_or w 0 0) e in omega arith)
-    by_tests false false f e = absurd (let h : ◌≡◌ {A = ℕ} 117 110 = ap (λ w. get_or w 0 0) e in omega arith)
+no_byte b e =
+    elim (cases_Bool (eqb b 0)) [
+      | inl none ↦ eqb-true b 0 none
+      | inr other ↦ absurd (cond_both (eqb b 0) _ _ (λ word. word ≢ codes "no")
+          (λ none. absurd (both_ways (eqb b 0) other none))
+          (λ some. cond_both (eqb b 1) _ _ (λ word. word ≢ codes "no") (λ one. others _ _ (omega arith)) (λ two. others _ _ (omega arith))) e)
+    ]
 
 -- the ends that are printed at a state are those of the formula there
 ends_printed : (two : Option TwoEnds) (s lo hi : ℕ) (few : FewUnits (units_at two s)) → lo ≤ whole → hi ≤ whole → (a b c d : List ℕ) →

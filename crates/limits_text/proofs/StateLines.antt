@@ -2,7 +2,7 @@
 use Rattle.std.proofs.Common.{◌≡◌, ◌≢◌, ℕ, zero, suc, ◌+◌, ◌-◌, ◌^◌, ◌<◌, ◌≤◌, Bool, true, false, cond, eqb, leb, ◌&&◌, List, [], ◌∷◌, ◌++◌, length, get_or, replicate, Some, None, Option, codes, decimal, sym, refl, ap, ◌∙◌, append_assoc, add-zero, zero-add, arith}
 use Rattle.std.specs.Prelude.{All}
 use Rattle.std.specs.List.{list_all}
-use Rattle.std.proofs.lemmas.Bool.{and_parts, leb-true}
+use Rattle.std.proofs.lemmas.Bool.{cond_both, and_parts, leb-true}
 use Rattle.std.proofs.lemmas.Fmt.{decimal_nonempty}
 use Rattle.std.proofs.lemmas.List.Elements.{All-append, All-weaker, All-replicate}
 use Rattle.std.proofs.lemmas.List.Sums.{AllPass-from_list_all}
@@ -32,10 +32,10 @@ number_lacks sep low n few = lacks_low sep low (decimal n) (digits_graphic n few
 -- nor has a verdict's word, which is not empty
 word_graphic : (b : ℕ) → AreGraphic (verdict_word b) × (0 < length (verdict_word b))
 word_graphic b =
-    elim (eqb b 0) as (λ x. AreGraphic (cond x (codes "no") (cond (eqb b 1) (codes "yes") (codes "undecided"))) × (0 < length (cond x (codes "no") (cond (eqb b 1) (codes "yes") (codes "undecided"))))) [
-      | true ↦ (refl, omega arith)
-      | false ↦ elim (eqb b 1) as (λ x. AreGraphic (cond x (codes "yes") (codes "undecided")) × (0 < length (cond x (codes "yes") (codes "undecided")))) [ true ↦ (refl, omega arith) | false ↦ (refl, omega arith) ]
-    ]
+    cond_both (eqb b 0) _ _ P (λ e. (refl, omega arith)) (λ e. cond_both (eqb b 1) _ _ P (λ e'. (refl, omega arith)) (λ e'. (refl, omega arith)))
+  where
+    P : List ℕ → Type 0
+    P word = AreGraphic word × (0 < length word)
 
 -- a cell at the right of its column is read as the word in it
 right_word : (width n : ℕ) (bytes : List ℕ) → n < 2 ^ 64 → words (at_right width (decimal n) ++ (32 ∷ bytes)) ≡ decimal n ∷ words bytes
