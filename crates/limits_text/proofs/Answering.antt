@@ -8,7 +8,6 @@ use Rattle.model.specs.Mdp.{Mdp, Lawful}
 use Rattle.theory.specs.Formulas.{Formula}
 use Rattle.theory.specs.Found.{verdicts, TwoEnds, ends_of}
 use Rattle.theory.proofs.Judged.{all_judged_rightly}
-use Rattle.rules.specs.Parts.{part_of}
 use Rattle.grammar.specs.Spelling.{print, Spelled}
 use Rattle.records.specs.declared.fault.JudgeFault.{JudgeFault}
 use Rattle.records.specs.declared.fault.JudgeFault.TheVariants as judge
@@ -27,11 +26,9 @@ use Rattle.limits_text.specs.declared.outcome.Outcome.TheVariants as outcome
 use Rattle.limits_text.specs.Outcomes.{counts_of, outcome_of}
 use Rattle.limits_text.specs.Reports.{formula_report, JudgedReport, ReportAnswer}
 use Rattle.limits_text.proofs.Outcomes.{outcome_means}
-use Rattle.limits_text.specs.Tables.{units_at}
 use Rattle.limits_text.specs.Promise.{Promise}
 use Rattle.limits_text.proofs.Printable.{print_shown}
-use Rattle.limits_text.proofs.StateLines.{FewUnits}
-use Rattle.limits_text.proofs.Promising.{keeps_promise}
+use Rattle.limits_text.proofs.Promising.{report_promise}
 
 -- buffers that have room for every formula within the limits
 pub record Roomy (m : Mdp) (b : judging.Buffers) : Type 0 where
@@ -58,15 +55,6 @@ judged_answer m text bytes c =
     let P : Outcome → Type 0 = λ o. JudgedReport m text bytes o → ReportAnswer m text bytes o in
     cond_both (ltb 0 c.no) outcome.Fails _ P (λ e j. j) (λ e. cond_both (ltb 0 c.undecided) outcome.Undecided outcome.Holds P (λ e j. j) (λ e j. j))
 
--- ends that are told are parts of the whole
-few_told : (n : ℕ) (two : Option TwoEnds) (ends : Option Ends) → Told n two ends → (s : ℕ) → s < n → FewUnits (units_at two s)
-few_told n None ends told s h = tt
-few_told n (Some two) None told s h = absurd told
-few_told n (Some two) (Some e) told s h =
-    let low = get_or e.lower.values s (part_of 0) in
-    let high = get_or e.upper.values s (part_of 0) in
-    (omega (arith, told.lower (part_of 0) s h, low.within), omega (arith, told.upper (part_of 0) s h, high.within))
-
 -- what is printed of a text that is judged is its report, with its outcome
 pub judged_text : (m : Mdp) (text : List ℕ) (before after : judging.Buffers) (n : ℕ) (row : List ℕ) (ends : Option Ends) (result : Result (String Global × Outcome) AllocError)
     → Roomy m before → judging.Accepted m text before after n → Lawful m
@@ -88,7 +76,7 @@ judged_text m text before after n row ends (Ok r) room a l told last report outc
       formula = f;
       reads = subst (λ k. judging.Reads text k f) room.records a.reads;
       report = printed;
-      promise = subst (Promise m f) (sym printed) (keeps_promise m l f a.reads.spelled (few_told m.states (ends_of m f) ends (told f a.reads.spelled a.reads.spells)));
+      promise = subst (Promise m) (sym printed) (report_promise m l f a.reads.spelled);
       outcome = refl;
       means = outcome_means m f (all_judged_rightly m l f);
     }))

@@ -1,5 +1,5 @@
 -- What a hole with a width writes is a cell of a table.
-use Rattle.std.proofs.Common.{◌≡◌, ℕ, zero, suc, ◌-◌, ◌^◌, true, false, cond, eqb, List, [], ◌∷◌, replicate, refl, ap, append-nil, codes}
+use Rattle.std.proofs.Common.{◌≡◌, ℕ, zero, suc, ◌-◌, ◌^◌, false, eqb, List, [], ◌∷◌, replicate, refl, ap, append-nil}
 use Rattle.std.proofs.Math.Nat.{sub-zero, sub_self}
 use Rattle.std.proofs.lemmas.Bool.{cond_both}
 use Rattle.std.specs.List.{repeat}

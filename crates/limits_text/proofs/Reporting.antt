@@ -8,7 +8,7 @@ use Rattle.model.specs.Mdp.{Mdp, Lawful}
 use Rattle.limits_text.specs.declared.outcome.Outcome.{Outcome}
 use Rattle.limits_text.specs.Lines.{list_lines}
 use Rattle.limits_text.specs.Lists.{Written, nothing, and_more, AppendsFront, LineTorn, LineWritten, LinesWritten, LineBegun, LinesBegun, LineReported, ListReported, ListBegun, Writes, is_formula, formula_count, progress_before}
-use Rattle.limits_text.proofs.KeptPromises.{list_keeps}
+use Rattle.limits_text.proofs.KeptPromises.{lines_kept, kept_begins, lines_begun_kept, promised}
 
 -- k lines of all are reported, over the model m with n formulas, to writers that had o and p
 pub record ReportedTo (m : Mdp) (n : ℕ) (all : List (List ℕ)) (k : ℕ) (o o' p p' : Option (List ℕ)) (outcomes : List Outcome) : Type 0 where
@@ -47,20 +47,24 @@ begun_none : (m : Mdp) (n i k : ℕ) (ls : List (List ℕ)) → LinesBegun m n i
 begun_none m n i k [] = refl
 begun_none m n i k (l ∷ ls) = inl (record { told = refl; said = inl refl; outcomes = refl })
 
+-- what is begun of a list keeps the promise
+list_begun : (m : Mdp) → Lawful m → (list : List ℕ) (w : Written) → LinesBegun m (formula_count list) 0 1 (list_lines list) w → ListBegun m list w
+list_begun m l list w lines = record { lines = lines; promise = promised m l w.reports (lines_begun_kept m l (formula_count list) 0 1 (list_lines list) w lines) }
+
 -- nothing is written where an error comes before the first line
-pub torn_first : (m : Mdp) (list : List ℕ) (o p : Option (List ℕ)) → Writes (ListBegun m list) o o p p
-torn_first m list o p = record {
+pub torn_first : (m : Mdp) → Lawful m → (list : List ℕ) (o p : Option (List ℕ)) → Writes (ListBegun m list) o o p p
+torn_first m l list o p = record {
   written = nothing;
-  said = begun_none m (formula_count list) 0 1 (list_lines list);
+  said = list_begun m l list nothing (begun_none m (formula_count list) 0 1 (list_lines list));
   out = Appends-nil o;
   progress = Appends-nil p;
 }
 
 -- a beginning of what is written of a list's lines is one of what is written of the list
-pub begun_of_list : (m : Mdp) (list : List ℕ) (n : ℕ) (all : List (List ℕ)) (o o' p p' : Option (List ℕ)) → all ≡ list_lines list → n ≡ count_by is_formula all → Writes (LinesBegun m n 0 1 all) o o' p p' → Writes (ListBegun m list) o o' p p'
-begun_of_list m list n all o o' p p' lines count w = record {
+pub begun_of_list : (m : Mdp) → Lawful m → (list : List ℕ) (n : ℕ) (all : List (List ℕ)) (o o' p p' : Option (List ℕ)) → all ≡ list_lines list → n ≡ count_by is_formula all → Writes (LinesBegun m n 0 1 all) o o' p p' → Writes (ListBegun m list) o o' p p'
+begun_of_list m l list n all o o' p p' lines count w = record {
   written = w.written;
-  said = subst (λ ls. LinesBegun m (count_by is_formula ls) 0 1 ls w.written) lines (subst (λ i. LinesBegun m i 0 1 all w.written) count w.said);
+  said = list_begun m l list w.written (subst (λ ls. LinesBegun m (count_by is_formula ls) 0 1 ls w.written) lines (subst (λ i. LinesBegun m i 0 1 all w.written) count w.said));
   out = w.out;
   progress = w.progress;
 }
@@ -140,7 +144,11 @@ reported_all m l list n all k o o' p p' outcomes lines count r past =
     let written = subst (λ ls. LinesWritten m (count_by is_formula ls) 0 1 ls r.written) lines (subst (λ i. LinesWritten m i 0 1 all r.written) count whole) in
     record {
       written = r.written;
-      said = record { lines = written; promise = list_keeps m l list r.written written; outcomes_are = r.outcomes_are };
+      said = record {
+        lines = written;
+        promise = promised m l r.written.reports (kept_begins m l r.written.reports (lines_kept m l (formula_count list) 0 1 (list_lines list) r.written written));
+        outcomes_are = r.outcomes_are;
+      };
       out = r.out;
       progress = r.progress;
     }

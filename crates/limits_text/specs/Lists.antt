@@ -7,7 +7,7 @@ use Rattle.limits_text.specs.declared.item.Item.{Item}
 use Rattle.limits_text.specs.declared.item.Item.TheVariants.{Nothing, Heading, Formula}
 use Rattle.limits_text.specs.declared.outcome.Outcome.{Outcome}
 use Rattle.limits_text.specs.Lines.{list_lines, item_of}
-use Rattle.limits_text.specs.Promise.{ListPromise}
+use Rattle.limits_text.specs.Promise.{Promise}
 use Rattle.limits_text.specs.Reports.{LineAnswer}
 
 -- is it a formula?
@@ -62,10 +62,10 @@ LinesWritten m n i k (l ∷ ls) w = (first : Written) × (rest : Written) × Lin
 abbrev pub ListWritten : Mdp → List ℕ → Written → Type 0
 ListWritten m list w = LinesWritten m (formula_count list) 0 1 (list_lines list) w
 
--- what is written of a list, whose formulas have these outcomes; its reports keep their promise
+-- what is written of a list, whose formulas have these outcomes; its reports keep the promise
 pub record ListReported (m : Mdp) (list : List ℕ) (outcomes : List Outcome) (w : Written) : Type 0 where
   pub lines : ListWritten m list w
-  pub promise : ListPromise m list w.reports
+  pub promise : Promise m w.reports
   pub outcomes_are : outcomes ≡ w.outcomes
 
 -- what has a property is written to two writers, which had the bytes o and p if these are known, and have o' and p' now
@@ -106,9 +106,10 @@ abbrev pub LinesBegun : Mdp → ℕ → ℕ → ℕ → List (List ℕ) → Writ
 LinesBegun m n i k [] w = w ≡ nothing
 LinesBegun m n i k (l ∷ ls) w = LineBegun m n i k l w ⊎ ((first : Written) × (rest : Written) × LineWritten m n i k l first × LinesBegun m n (i + length first.outcomes) (k + 1) ls rest × (w ≡ and_more first rest))
 
--- a beginning of what is written of a list: the reports of lines from the first on, and a beginning of the next
-abbrev pub ListBegun : Mdp → List ℕ → Written → Type 0
-ListBegun m list w = LinesBegun m (formula_count list) 0 1 (list_lines list) w
+-- a beginning of what is written of a list: the reports of lines from the first on, and a beginning of the next; they keep the promise
+pub record ListBegun (m : Mdp) (list : List ℕ) (w : Written) : Type 0 where
+  pub lines : LinesBegun m (formula_count list) 0 1 (list_lines list) w
+  pub promise : Promise m w.reports
 
 -- a line was reported to a writer
 pub record LineReported (m : Mdp) (k : ℕ) (line : List ℕ) (o o' : Option (List ℕ)) (outcome : Option Outcome) : Type 0 where

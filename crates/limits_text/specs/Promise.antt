@@ -1,54 +1,61 @@
--- What a printed report promises: what stands in its bytes at a state, and what that says of all adversaries.
-use Rattle.std.specs.Prelude.{◌≡◌, ℕ, ◌+◌, ◌<◌, ◌≤◌, List, [], ◌∷◌, length, codes, decimal, filter, nat_lt, slice_get, Some}
-use Rattle.std.specs.List.{flat_map}
-use Rattle.model.specs.Mdp.{Mdp}
+-- What printed bytes promise: what a reader finds in them at a state, and what that says of all adversaries.
+use Rattle.std.specs.Prelude.{◌≡◌, ℕ, ◌+◌, ◌<◌, ◌≤◌, ◌⊎◌, List, [], ◌∷◌, length, codes, decimal, filter, nat_lt}
+use Rattle.model.specs.Mdp.{Mdp, Lawful}
 use Rattle.theory.specs.Mixes.{whole}
+use Rattle.theory.specs.Adversaries.{Adversary, Allowed}
 use Rattle.theory.specs.Formulas.{Formula, Holds, HasOneSet}
 use Rattle.theory.specs.Found.{BoundsFormula}
 use Rattle.text.specs.Cuts.{pieces, piece}
 use Rattle.grammar.specs.Spelling.{print, Spelled}
-use Rattle.limits_text.specs.Lines.{list_lines}
+
+-- line i of the bytes, from 0, is this one, and ended by an LF (10)
+pub record HasLine (bytes : List ℕ) (i : ℕ) (line : List ℕ) : Type 0 where
+  pub same : piece 10 i bytes ≡ line
+  pub ended : i + 1 < length (pieces 10 bytes)
 
 -- the words of a line: what stands between its blanks (32)
 abbrev pub words : List ℕ → List (List ℕ)
 words line = filter (λ word. nat_lt 0 (length word)) (pieces 32 line)
 
--- the words in the line of a state: a report has a line for each state, from state 0 on, behind two others; an LF (10) ends each
-abbrev pub state_words : List ℕ → ℕ → List (List ℕ)
-state_words report s = words (piece 10 (s + 2) report)
+-- a line is the heading of a table, of one without ends or of one with them
+abbrev pub IsHeading : List ℕ → Type 0
+IsHeading line =
+    (line ≡ codes "  state  verdict") ⊎ (line ≡ codes "  state  verdict         lower       upper")
 
--- a report prints a verdict of the formula f at the state s: its first line is the text of f, and in the line of s the verdict
--- stands behind the number of s
-pub record PrintsVerdict (report : List ℕ) (f : Formula) (s : ℕ) (verdict : List ℕ) : Type 0 where
-  pub begins : piece 10 0 report ≡ print f
-  pub behind : List (List ℕ)
-  pub line : state_words report s ≡ decimal s ∷ verdict ∷ behind
+-- in the bytes stands a table of the formula f, with this row for the state s: a line is the text of f, the next one is a heading, and
+-- behind it stand the rows, from state 0 on
+pub record HasRow (bytes : List ℕ) (f : Formula) (s : ℕ) (row : List ℕ) : Type 0 where
+  pub at : ℕ
+  pub formula : HasLine bytes at (print f)
+  pub heading : List ℕ
+  pub headed : HasLine bytes (at + 1) heading
+  pub is_heading : IsHeading heading
+  pub line : HasLine bytes (at + 2 + s) row
 
--- it prints two ends lo and hi there: two numbers of units, none above the whole, that stand behind the verdict
-pub record PrintsEnds (report : List ℕ) (f : Formula) (s lo hi : ℕ) : Type 0 where
-  pub begins : piece 10 0 report ≡ print f
+-- the row of s tells a verdict: that is its second word, behind the number of s
+abbrev pub TellsVerdict : ℕ → List ℕ → List ℕ → Type 0
+TellsVerdict s row verdict = (behind : List (List ℕ)) × (words row ≡ decimal s ∷ verdict ∷ behind)
+
+-- the row of s tells two ends lo and hi: they stand behind the verdict, and are numbers of units, none above the whole
+pub record TellsEnds (s : ℕ) (row : List ℕ) (lo hi : ℕ) : Type 0 where
+  pub verdict : List ℕ
+  pub line : words row ≡ decimal s ∷ verdict ∷ decimal lo ∷ decimal hi ∷ []
   pub lower_within : lo ≤ whole
   pub upper_within : hi ≤ whole
-  pub verdict : List ℕ
-  pub line : state_words report s ≡ decimal s ∷ verdict ∷ decimal lo ∷ decimal hi ∷ []
 
--- the promise of a report of f over the model m: where it prints yes at a state, f holds there of all adversaries, and where it prints
--- no, f does not; two ends that it prints bound all adversaries; and every formula has exactly one set of states, so that
--- nothing here is said of no set
-pub record Promise (m : Mdp) (f : Formula) (report : List ℕ) : Type 0 where
-  pub yes_holds : (s : ℕ) → s < m.states → PrintsVerdict report f s (codes "yes") → Holds m f s
-  pub no_fails : (s : ℕ) → s < m.states → PrintsVerdict report f s (codes "no") → ¬ (Holds m f s)
-  pub ends_bound : (s lo hi : ℕ) → s < m.states → PrintsEnds report f s lo hi → BoundsFormula m f s lo hi
-  pub one_set : (p : Formula) → HasOneSet m p
+-- what the row of s in a table of f means over the model m: with yes f holds at s, of all adversaries, and with no it does not; two
+-- ends bound all adversaries
+pub record RowPromise (m : Mdp) (f : Formula) (s : ℕ) (row : List ℕ) : Type 0 where
+  pub yes_holds : TellsVerdict s row (codes "yes") → Holds m f s
+  pub no_fails : TellsVerdict s row (codes "no") → ¬ (Holds m f s)
+  pub ends_bound : (lo hi : ℕ) → TellsEnds s row lo hi → BoundsFormula m f s lo hi
 
--- what is printed of a line keeps the promise of the formula that the line spells, if it spells one
-abbrev pub KeepsPromise : Mdp → List ℕ → List ℕ → Type 0
-KeepsPromise m line report = (f : Formula) → Spelled f → line ≡ print f → Promise m f report
-
--- the bytes are the reports of a list's lines, one for each and one after another, and each keeps its promise
-pub record ListPromise (m : Mdp) (list bytes : List ℕ) : Type 0 where
-  pub reports : List (List ℕ)
-  pub one_each : length reports ≡ length (list_lines list)
-  pub joined : bytes ≡ flat_map (λ report. report) reports
-  pub kept : (k : ℕ) (line report : List ℕ) → slice_get (list_lines list) k ≡ Some line →
-      slice_get reports k ≡ Some report → KeepsPromise m line report
+-- the promise of printed bytes over the model m: each row that they have of a formula at one of its states means what it says; the
+-- model is lawful; it has an adversary, so that what is said of all is not said of none; and every formula has exactly one set of
+-- states, so that what is said of each of its sets is said of one
+pub record Promise (m : Mdp) (bytes : List ℕ) : Type 0 where
+  pub rows : (f : Formula) (s : ℕ) (row : List ℕ) → Spelled f → s < m.states →
+      HasRow bytes f s row → RowPromise m f s row
+  pub lawful : Lawful m
+  pub some_adversary : (σ : Adversary) × Allowed m σ
+  pub one_set : (f : Formula) → HasOneSet m f

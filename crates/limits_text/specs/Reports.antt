@@ -27,13 +27,13 @@ formula_report text row ends = text ++ (codes "\n" ++ (table row ends ++ (counts
 abbrev pub refusal_report : JudgeFault → List ℕ → List ℕ
 refusal_report e text = judge_refusal e text ++ codes "\n"
 
--- the text spells a formula within the limits; the bytes are its report, and keep the promise of one; the outcome is that of its row,
--- and means what it says
+-- the text spells a formula within the limits; the bytes are its report, and keep the promise; the outcome is that of its row, and
+-- means what it says
 pub record JudgedReport (m : Mdp) (text bytes : List ℕ) (o : Outcome) : Type 0 where
   pub formula : Formula
   pub reads : Reads text lent_records formula
   pub report : bytes ≡ formula_report (print formula) (row_of m formula) (ends_of m formula)
-  pub promise : Promise m formula bytes
+  pub promise : Promise m bytes
   pub outcome : o ≡ outcome_of (counts_of (row_of m formula))
   pub means : OutcomeMeans m formula o
 

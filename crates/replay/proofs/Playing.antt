@@ -16,7 +16,7 @@ use Rattle.rules.specs.Parts.{prefers_number, prefers_part, mix_rounded, in_part
 use Rattle.trial.specs.Queries.{Query, marked}
 use Rattle.trial.specs.Aims.{preference_of}
 use Rattle.trial.specs.Rows.{start_part}
-use Rattle.trial.proofs.PathRows.{ends_units}
+use Rattle.trial.proofs.PathRows.{end_within}
 use Rattle.trial.proofs.Queries.{bounds_for}
 use Rattle.replay.specs.declared.call.Call.{Call}
 use Rattle.replay.specs.Standing.{Stands}
@@ -77,18 +77,11 @@ module _ (m m' : Mdp) (before after : List Call) (i : ℕ) (o : Option Query) (b
       others k e h other = get_or-set_other after i k d e other ∙ so_far.left k e (omega arith)
 
 module _ (m : Mdp) (l : Lawful m) where
-  -- an end of a query is a part of the whole
-  end_within : (r : Rounding) (p : Preference) (left right : ℕ → Bool) (k s : ℕ) → s < m.states → rounds (prefers_number p) (mix_rounded r) k (held left right m) (start right) s ≤ whole
-  end_within r p left right k s h =
-      let z : Part = rounds (prefers_part p) (in_parts (mix_rounded r)) k (held left right m) (start_part right) s in
-      let e = ends_units (record { rounding = r; preference = p }) r p refl refl (held left right m) (held_lawful left right m l) right k s h z refl in
-      omega (arith, z.within)
-
   -- the pair of a query
   pair : (q : Query) (s : ℕ) → s < m.states → Pair m q s
   pair q s h = record {
-    lower_within = end_within Down (preference_of q.aim) (marked q.left) (marked q.right) q.rounds s h;
-    upper_within = end_within Up (preference_of q.aim) (marked q.left) (marked q.right) q.rounds s h;
+    lower_within = end_within Down (preference_of q.aim) (held (marked q.left) (marked q.right) m) (held_lawful (marked q.left) (marked q.right) m l) (marked q.right) q.rounds s h;
+    upper_within = end_within Up (preference_of q.aim) (held (marked q.left) (marked q.right) m) (held_lawful (marked q.left) (marked q.right) m l) (marked q.right) q.rounds s h;
     bounds = bounds_for m l q.aim q s h;
   }
 

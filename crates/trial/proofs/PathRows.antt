@@ -3,6 +3,7 @@ use Rattle.std.proofs.Common.{◌≡◌, ℕ, ◌<◌, ◌≤◌, Bool, eqb, ltb
 use Rattle.std.proofs.lemmas.Bool.{cases_Bool, cond-true, cond-false, lt-ltb, le-ltb}
 use Rattle.model.specs.Mdp.{Mdp, Lawful}
 use Rattle.theory.specs.Rules.{RuleLaws}
+use Rattle.theory.specs.Mixes.{whole}
 use Rattle.theory.specs.Rounds.{rounds}
 use Rattle.theory.specs.Ends.{start}
 use Rattle.theory.specs.Verdicts.{asked}
@@ -45,6 +46,13 @@ ends_units x r p e f m l set k s h z found =
     ∙ ap (λ (q : Preference). units_of (rounds (prefers_part q) (in_parts (mix_rounded r)) k m (start_part set) s)) f
     ∙ parts_rounds r p m l (start_part set) k s h
     ∙ rounds_same (prefers_number p) (mix_rounded r) (numbers_lawful r p) m l (λ t. units_of (start_part set t)) (start set) (λ t q. start_units set t) k s h
+
+-- so an end in numbers is at most the whole
+pub end_within : (r : Rounding) (p : Preference) (m : Mdp) → Lawful m → (set : ℕ → Bool) (k s : ℕ) → s < m.states → rounds (prefers_number p) (mix_rounded r) k m (start set) s ≤ whole
+end_within r p m l set k s h =
+    let z : Part = rounds (prefers_part p) (in_parts (mix_rounded r)) k m (start_part set) s in
+    let e = ends_units (record { rounding = r; preference = p }) r p refl refl m l set k s h z refl in
+    omega (arith, z.within)
 
 -- so have ends that rounds make of a list that tells the start
 pub started_units : (r : Rounding) (p : Preference) (m : Mdp) → Lawful m → (set : ℕ → Bool) (ends : List Part) (d : Part) → ((s : ℕ) → s < m.states → get_or ends s d ≡ start_part set s) → (k s : ℕ) → s < m.states →

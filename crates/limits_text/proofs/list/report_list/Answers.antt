@@ -39,7 +39,7 @@ returns-clause-whole g c =
 
 -- nothing is written where there is no memory for the lines
 pub returns-in_err-lines-clause-begun : goal.returns-in_err-lines-clause-begun
-returns-in_err-lines-clause-begun g c = after_error c.from_residual.result (torn_first _ c.args.list.now _ _)
+returns-in_err-lines-clause-begun g c = after_error c.from_residual.result (torn_first _ (g.S.Source.lawful c.args.source.now) c.args.list.now _ _)
 
 -- an error came while a line was told of
 pub returns-in_err-tell_line-clause-begun : goal.returns-in_err-tell_line-clause-begun
@@ -49,7 +49,7 @@ returns-in_err-tell_line-clause-begun g c =
     let there = lines_there _ _ _ c.args.list.now _ c.deref-line-items.ensures.value c.as_slice.ensures.value c.in_ok-lines.ensures c.formula_count-formulas.ensures in
     let within : k < length (map (λ p. p.now) lines) = omega (arith, length-map lines (λ p. p.now), c.loop-index-test.true) in
     after_error c.from_residual-in_err-tell_line.result
-    (begun_of_list _ c.args.list.now _ _ _ _ _ _ there.0 there.1
+    (begun_of_list _ (g.S.Source.lawful c.args.source.now) c.args.list.now _ _ _ _ _ _ there.0 there.1
     (torn_told _ _ _ k _ _ _ _ _ c.loop-index.invariant _ within (sym (get_or-map (λ p. p.now) lines k _ _ c.loop-index-test.true)) _ _ (c.len.ensures ∙ c.loop-index.outcomes.ok.0) c.in_err-tell_line.ensures.front))
 
 -- or while its report was made or written
@@ -60,7 +60,7 @@ returns-in_err-outcome-clause-begun g c =
     let there = lines_there _ _ _ c.args.list.now _ c.deref-line-items.ensures.value c.as_slice.ensures.value c.in_ok-lines.ensures c.formula_count-formulas.ensures in
     let within : k < length (map (λ p. p.now) lines) = omega (arith, length-map lines (λ p. p.now), c.loop-index-test.true) in
     after_error c.from_residual-in_err-outcome.result
-    (begun_of_list _ c.args.list.now _ _ _ _ _ _ there.0 there.1
+    (begun_of_list _ (g.S.Source.lawful c.args.source.now) c.args.list.now _ _ _ _ _ _ there.0 there.1
     (torn_report _ _ _ k _ _ _ _ _ c.loop-index.invariant _ within (sym (get_or-map (λ p. p.now) lines k _ _ c.loop-index-test.true)) _ _ _ (c.len.ensures ∙ c.loop-index.outcomes.ok.0) c.in_ok-tell_line.ensures.whole c.in_err-outcome.ensures.torn))
 
 -- or when it was reported, for want of memory for its outcome
@@ -71,5 +71,5 @@ returns-in_err-extend-clause-begun g c =
     let there = lines_there _ _ _ c.args.list.now _ c.deref-line-items.ensures.value c.as_slice.ensures.value c.in_ok-lines.ensures c.formula_count-formulas.ensures in
     let within : k < length (map (λ p. p.now) lines) = omega (arith, length-map lines (λ p. p.now), c.loop-index-test.true) in
     after_error c.from_residual-in_err-extend.result
-    (begun_of_list _ c.args.list.now _ _ _ _ _ _ there.0 there.1
+    (begun_of_list _ (g.S.Source.lawful c.args.source.now) c.args.list.now _ _ _ _ _ _ there.0 there.1
     (torn_kept _ _ _ k _ _ _ _ _ c.loop-index.invariant _ within (sym (get_or-map (λ p. p.now) lines k _ _ c.loop-index-test.true)) _ _ _ _ (c.len.ensures ∙ c.loop-index.outcomes.ok.0) c.in_ok-tell_line.ensures.whole c.in_ok-outcome.ensures.whole))
