@@ -51,7 +51,7 @@ lines_begun m n i k (l ∷ ls) w (first, rest, this, others, e) = inr (first, re
 pub whole_begun : (m : Mdp) (limits : Option (List ℕ)) (list : List ℕ) (outcomes : List Outcome) (o o' p p' : Option (List ℕ)) → limits ≡ Some list → Writes (ListReported m list outcomes) o o' p p' → Writes (LimitsBegun limits m) o o' p p'
 whole_begun m limits list outcomes o o' p p' given w = record {
   written = w.written;
-  said = inr (list, given, lines_begun m (formula_count list) 0 1 (list_lines list) w.written w.said.lines);
+  said = inr (list, given, record { lines = lines_begun m (formula_count list) 0 1 (list_lines list) w.written w.said.lines; promise = w.said.promise });
   out = w.out;
   progress = w.progress;
 }
