@@ -1,5 +1,6 @@
 -- What `check` prints keeps its promise.
-use Rattle.std.proofs.Common.{◌≡◌, ℕ, ◌⊎◌, inl, inr, ⊎_elim, Bool, cond, eqb, List, [], ◌++◌, append-nil, Option, None, Some, Result, Ok, Err, OnErr, IfOk, MatchOption, codes, sym, refl, ap, ◌∙◌, subst}
+use Rattle.std.proofs.Common.{◌≡◌, ℕ, ◌⊎◌, inl, inr, ⊎_elim, Bool, cond, eqb, List, [], ◌∷◌, ◌++◌, Option, None, Some, Result, Ok, Err, OnErr, IfOk, MatchOption, codes, sym, refl, ap, ◌∙◌, subst}
+use Rattle.std.specs.Result.{result_map_both}
 use Rattle.std.proofs.lemmas.Bool.{cond_both}
 use Rattle.model.specs.Mdp.{Mdp}
 use Rattle.text.specs.Contents.{Content, model_of}
@@ -24,7 +25,7 @@ use Rattle.console.specs.declared.command.Mistake.{Mistake}
 use Rattle.console.specs.declared.command.ModelName.{ModelName}
 use Rattle.console.specs.declared.command.ModelName.TheVariants.{File, Ladder}
 use Rattle.console.specs.declared.reply.Reply.{Reply}
-use Rattle.console.specs.Commands.{command_of, word_at}
+use Rattle.console.specs.Commands.{model_named, command_of, word_at}
 use Rattle.console.specs.Helps.{no_file_text}
 use Rattle.console.specs.Replies.{Answer, answer_of, printed, refused, wrong, summary_answer, ladder_found, TextFound, ModelFound, LimitsAnswer, CommandAnswer, Answers, CommandBegun, Begun}
 use Rattle.console.specs.Promise.{IsDescribed, IsNamed, ChecksTruly, IsRefusal, printed_by, Promised}
@@ -46,10 +47,10 @@ ladder_named r d w None m e = cc
 ladder_named r d w (Some f) m e = absurd cc
 
 -- the model that is found is the one that is named
-model_named : (name : ModelName) (path : List ℕ) (file : Option (List ℕ)) (m : Mdp) → ModelFound name path file (Ok m) → IsNamed name file m
-model_named File path None m e = absurd cc
-model_named File path (Some text) m found = text_named text m found
-model_named (Ladder n) path file m e = ladder_named n.rungs n.denominator n.weight (ladder_fault n.rungs n.denominator n.weight) m e
+found_named : (name : ModelName) (path : List ℕ) (file : Option (List ℕ)) (m : Mdp) → ModelFound name path file (Ok m) → IsNamed name file m
+found_named File path None m e = absurd cc
+found_named File path (Some text) m found = text_named text m found
+found_named (Ladder n) path file m e = ladder_named n.rungs n.denominator n.weight (ladder_fault n.rungs n.denominator n.weight) m e
 
 -- where there is no model, nothing but a refusal is printed
 abbrev pub IsQuiet : List ℕ → Type 0
@@ -100,24 +101,28 @@ limits_promised name path file limits (Some list) (Ok m) w a found x =
     let same : printed_by a ≡ summary_text summary = ap printed_by x.2 ∙ summary_printed summary in
     inl (record {
       model = m;
-      named = model_named name path file m found;
+      named = found_named name path file m found;
       promise = subst (λ t. Promise m (w.reports ++ t)) (sym same) (promised m lawful (w.reports ++ summary_text summary) (kept_begins m lawful (w.reports ++ summary_text summary) all));
     })
 
+-- the words `check MODEL LIMITS` ask for a check of the model that is named
+asked_check : (args : List (List ℕ)) (model limits : List ℕ) (name : ModelName) → args ≡ codes "check" ∷ model ∷ limits ∷ [] → model_named model ≡ Ok name → command_of args ≡ Ok (Check name)
+asked_check args model limits name words named = ap command_of words ∙ ap (result_map_both Check (λ e. e)) named
+
 -- so does what is printed of the words of the command line
 answers_promised : (args : List (List ℕ)) (file second : Option (List ℕ)) (w : Written) (a : Answer) → Answers args file second w a → Promised args file (w.reports ++ printed_by a)
-answers_promised args file second w a x = λ name e.
-    let check = subst (λ c. CommandAnswer c args file second w a) e x in
+answers_promised args file second w a x = λ model limits name words named.
+    let check = subst (λ c. CommandAnswer c args file second w a) (asked_check args model limits name words named) x in
     limits_promised name (word_at 1 args) file (word_at 2 args) second check.0 w a check.1 check.2
 
 -- and what was begun where an error came
 begun_promised : (args : List (List ℕ)) (file second : Option (List ℕ)) (w : Written) → Begun args file second w → Promised args file w.reports
-begun_promised args file second w x = λ name e.
+begun_promised args file second w x = λ model limits name words named.
     let quiet : w.reports ≡ [] → ChecksTruly name file w.reports ⊎ IsQuiet w.reports = λ none. inr (inr none) in
     ⊎_elim (λ none. quiet (ap (λ v. v.reports) none))
     (λ y. ⊎_elim (λ none. quiet (ap (λ v. v.reports) none))
-    (λ z. inl (record { model = y.0; named = model_named name (word_at 1 args) file y.0 y.1; promise = z.2.promise })) y.2)
-    (subst (λ c. CommandBegun c args file second w) e x)
+    (λ z. inl (record { model = y.0; named = found_named name (word_at 1 args) file y.0 y.1; promise = z.2.promise })) y.2)
+    (subst (λ c. CommandBegun c args file second w) (asked_check args model limits name words named) x)
 
 -- so the clauses of a reply follow from what it answers
 pub reply_promised : {E : Type 0} (args : List (List ℕ)) (file second : Option (List ℕ)) (o o' p p' : Option (List ℕ)) (r : Result Reply E) →

@@ -14,16 +14,16 @@
 --   who chooses                         Adversary, Allowed                     theory/specs/Adversaries.antt
 --   what a model is                     Mdp, Lawful, row                       model/specs/Mdp.antt
 --   which model a text describes        Describes, text_of, model_of           text/specs/Texts.antt, Contents.antt
-use Rattle.std.specs.Prelude.{◌≡◌, ℕ, ◌⊎◌, List, [], ◌++◌, codes, Some, Ok, Option}
+--   which model a word names            model_named                            specs/Commands.antt
+use Rattle.std.specs.Prelude.{◌≡◌, ℕ, ◌⊎◌, List, [], ◌∷◌, ◌++◌, codes, Some, Ok, Option}
 use Rattle.model.specs.Mdp.{Mdp}
 use Rattle.text.specs.Contents.{Content, model_of}
 use Rattle.text.specs.Texts.{Describes}
 use Rattle.ladder.specs.Ladders.{ladder_model}
 use Rattle.limits_text.specs.Promise.{Promise}
-use Rattle.console.specs.declared.command.Command.TheVariants.{Check}
 use Rattle.console.specs.declared.command.ModelName.{ModelName}
 use Rattle.console.specs.declared.command.ModelName.TheVariants.{File, Ladder}
-use Rattle.console.specs.Commands.{command_of}
+use Rattle.console.specs.Commands.{model_named}
 use Rattle.console.specs.Replies.{Answer, printed, refused, wrong}
 
 -- m is the model that a text describes: that of the only content which the text is the text of
@@ -54,8 +54,9 @@ printed_by (printed bytes) = bytes
 printed_by (refused bytes) = bytes
 printed_by (wrong bytes) = []
 
--- the promise of `check`, given the words of the command line, the bytes of its model's file, if that could be read, and all bytes that
--- are printed: they keep their promise over the model that is named; or there is none, and nothing is printed but a refusal
+-- the promise of `check MODEL LIMITS`, given the words of the command line, the bytes of the model's file, if that could be read, and
+-- all bytes that are printed: they keep their promise over the model that is named; or nothing is printed but a refusal
 abbrev pub Promised : List (List ℕ) → Option (List ℕ) → List ℕ → Type 0
-Promised args file bytes = (name : ModelName) → command_of args ≡ Ok (Check name) →
+Promised args file bytes = (model limits : List ℕ) (name : ModelName) →
+    args ≡ codes "check" ∷ model ∷ limits ∷ [] → model_named model ≡ Ok name →
     ChecksTruly name file bytes ⊎ (IsRefusal bytes ⊎ (bytes ≡ []))

@@ -163,7 +163,8 @@ summary_answer s = cond (s.refused == 0) (printed (summary_text s)) (refused (su
 abbrev pub LimitsAnswer : List ℕ → Option (List ℕ) → Result Mdp Answer → Written → Answer → Type 0
 LimitsAnswer path list (Err b) w a = (w ≡ nothing) × (a ≡ b)
 LimitsAnswer path None (Ok m) w a = (w ≡ nothing) × (a ≡ wrong (no_file_text path))
-LimitsAnswer path (Some list) (Ok m) w a = (outcomes : List Outcome) × ListReported m list outcomes w × (a ≡ summary_answer (summary_of outcomes))
+LimitsAnswer path (Some list) (Ok m) w a = (outcomes : List Outcome) × ListReported m list outcomes w ×
+    (a ≡ summary_answer (summary_of outcomes))
 
 -- the same by the name of the model
 abbrev pub CheckAnswer : ModelName → List ℕ → Option (List ℕ) → List ℕ → Option (List ℕ) → Written → Answer → Type 0
@@ -171,11 +172,13 @@ CheckAnswer name path file limits list w a = (r : Result Mdp Answer) × ModelFou
 
 -- what was written of a list of limits over a model where an error came: nothing, or a beginning of what is written of it
 abbrev pub LimitsBegun : Option (List ℕ) → Mdp → Written → Type 0
-LimitsBegun limits m w = (w ≡ nothing) ⊎ ((list : List ℕ) × (limits ≡ Some list) × ListBegun m list w)
+LimitsBegun limits m w = (w ≡ nothing) ⊎
+    ((list : List ℕ) × (limits ≡ Some list) × ListBegun m list w)
 
 -- the same by the name of the model
 abbrev pub CheckBegun : ModelName → List ℕ → Option (List ℕ) → Option (List ℕ) → Written → Type 0
-CheckBegun name path file limits w = (w ≡ nothing) ⊎ ((m : Mdp) × ModelFound name path file (Ok m) × LimitsBegun limits m w)
+CheckBegun name path file limits w = (w ≡ nothing) ⊎
+    ((m : Mdp) × ModelFound name path file (Ok m) × LimitsBegun limits m w)
 
 -- the path of a model's file, given the words of the command line
 abbrev pub model_path : ModelName → List (List ℕ) → Option (List ℕ)

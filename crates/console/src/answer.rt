@@ -60,7 +60,12 @@ pub(crate) fn reply_to<W: Write, P: Write>(
     out: &mut W,
     progress: &mut P,
 ) -> io::Result<Reply>
-    ensures whole { IfOk result (λ a. Writes (λ w. Answers (map string_bytes args.now) (option_map (λ x. x.now) file.entry) (option_map (λ x. x.now) second.entry) w (answer_of a)) (W.Write.contents out.old) (W.Write.contents out.new) (P.Write.contents progress.old) (P.Write.contents progress.new)) }
+    ensures whole { IfOk result (λ a. Writes
+        (λ w. Answers (map string_bytes args.now)
+        (option_map (λ x. x.now) file.entry) (option_map (λ x. x.now) second.entry)
+        w (answer_of a))
+        (W.Write.contents out.old) (W.Write.contents out.new)
+        (P.Write.contents progress.old) (P.Write.contents progress.new)) }
     ensures begun { OnErr result (Writes
         (Begun (map string_bytes args.now)
         (option_map (λ x. x.now) file.entry) (option_map (λ x. x.now) second.entry))

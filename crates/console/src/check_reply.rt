@@ -50,9 +50,14 @@ impl Limits<'_> {
         source: &S,
         writers: Writers<'_, W, P>,
     ) -> io::Result<Reply>
-        ensures whole { IfOk result (λ a. Writes (λ w. LimitsAnswer self.now.0.path.now (option_map (λ x. x.now) self.now.0.bytes) (Ok (S.Source.model source.now)) w (answer_of a)) (W.Write.contents writers.entry.out.now) (W.Write.contents writers.exit.0.now) (P.Write.contents writers.entry.progress.now) (P.Write.contents writers.exit.1.0.now)) }
+        ensures whole { IfOk result (λ a. Writes
+            (λ w. LimitsAnswer self.now.0.path.now (option_map (λ x. x.now) self.now.0.bytes)
+            (Ok (S.model source.now)) w (answer_of a))
+            (W.Write.contents writers.entry.out.now) (W.Write.contents writers.exit.0.now)
+            (P.Write.contents writers.entry.progress.now)
+            (P.Write.contents writers.exit.1.0.now)) }
         ensures begun { OnErr result (Writes
-            (LimitsBegun (option_map (λ x. x.now) self.now.0.bytes) (S.Source.model source.now))
+            (LimitsBegun (option_map (λ x. x.now) self.now.0.bytes) (S.model source.now))
             (W.Write.contents writers.entry.out.now) (W.Write.contents writers.exit.0.now)
             (P.Write.contents writers.entry.progress.now)
             (P.Write.contents writers.exit.1.0.now)) }
@@ -74,7 +79,13 @@ impl Limits<'_> {
         model: &Named<'_>,
         writers: Writers<'_, W, P>,
     ) -> io::Result<Reply>
-        ensures whole { IfOk result (λ a. Writes (λ w. CheckAnswer model.now.name model.now.file.path.now (option_map (λ x. x.now) model.now.file.bytes) self.now.0.path.now (option_map (λ x. x.now) self.now.0.bytes) w (answer_of a)) (W.Write.contents writers.entry.out.now) (W.Write.contents writers.exit.0.now) (P.Write.contents writers.entry.progress.now) (P.Write.contents writers.exit.1.0.now)) }
+        ensures whole { IfOk result (λ a. Writes
+            (λ w. CheckAnswer model.now.name model.now.file.path.now
+            (option_map (λ x. x.now) model.now.file.bytes)
+            self.now.0.path.now (option_map (λ x. x.now) self.now.0.bytes) w (answer_of a))
+            (W.Write.contents writers.entry.out.now) (W.Write.contents writers.exit.0.now)
+            (P.Write.contents writers.entry.progress.now)
+            (P.Write.contents writers.exit.1.0.now)) }
         ensures begun { OnErr result (Writes
             (CheckBegun model.now.name model.now.file.path.now
             (option_map (λ x. x.now) model.now.file.bytes)

@@ -1,5 +1,5 @@
 -- Just the formulas within the limits have no fault.
-use Rattle.std.proofs.Common.{◌≡◌, ℕ, ◌+◌, Bool, true, false, ◌&&◌, leb, [], ◌∷◌, length, is_some, Some, None, Option, refl, ap}
+use Rattle.std.proofs.Common.{◌≡◌, ◌↔◌, ℕ, ◌+◌, Bool, true, false, ◌&&◌, leb, [], ◌∷◌, length, is_some, Some, None, Option, refl, ap}
 use Rattle.std.proofs.lemmas.Bool.{and_parts, and_from, leb-true, le-leb}
 use Rattle.std.specs.Option.{option_or}
 use Rattle.text.specs.Refusals.{ask, first}
@@ -10,7 +10,7 @@ use Rattle.grammar.specs.Spelling.{print_bound, print, Spelled, SpelledPath}
 use Rattle.records.specs.declared.fault.FormulaFault.TheVariants as fault
 use Rattle.formula.specs.Records.{size}
 use Rattle.formula.specs.Questions.{first_large, path_first_large, unbounded, first_unbounded, path_first_unbounded, depth, placed, formula_fault}
-use Rattle.formula.specs.Answers.{Within, Limits}
+use Rattle.formula.specs.Answers.{Within}
 
 -- there is no first place just if there is none of two
 or_none : (a b : Option ℕ) → option_or a b ≡ None → (a ≡ None) × (b ≡ None)
@@ -108,8 +108,8 @@ clear (Some p) a b u e = absurd cc
 cleared : (large : Option ℕ) (deep room : Bool) (unb : Option ℕ) → Clear large deep room unb → first (placed fault.Number large ∷ ask deep fault.Depth ∷ ask room fault.Records ∷ placed fault.Until unb ∷ []) ≡ None
 cleared large deep room unb c = rw (c.small, c.shallow, c.enough, c.bounded) refl
 
--- the theorem of the limits
-pub limits : Limits
+-- just the formulas within the limits have no fault
+pub limits : (lent : ℕ) (f : Formula) → Spelled f → (formula_fault lent f ≡ None) ↔ Within lent f
 limits lent f l = (into, from)
   where
     into : formula_fault lent f ≡ None → Within lent f

@@ -14,8 +14,12 @@ use Rattle.grammar.proofs.Chains.{heads}
 use Rattle.grammar.proofs.Parts.{digit_inside}
 use Rattle.grammar.proofs.Readings.{only}
 use Rattle.formula.specs.Questions.{first_large, path_first_large, unbounded, first_unbounded, path_first_unbounded}
-use Rattle.formula.specs.Places.{ProbabilityAt, before_steps, LargeNumber, UnboundedUntil, FirstIfAny}
-use Rattle.formula.specs.Answers.{Places}
+use Rattle.formula.specs.Places.{ProbabilityAt, before_steps, LargeNumber, UnboundedUntil, FirstAt}
+
+-- the least place of which P holds, if it holds of any
+abbrev pub FirstIfAny : (ℕ → Type 0) → Option ℕ → Type 0
+FirstIfAny P None = (p : ℕ) → P p → ⊥
+FirstIfAny P (Some p) = FirstAt P p
 
 -- the first part of what stands in a text stands there
 front : (u v : List ℕ) {t : List ℕ} {a e : ℕ} → Stands (u ++ v) t a e → Stands u t a (a + length u)
@@ -467,7 +471,7 @@ firsts P (Some p) is found = record {
 }
 
 -- the theorem of the places
-pub places : Places
+pub places : (f : Formula) → Spelled f → FirstIfAny (LargeNumber (print f)) (first_large 0 f) × FirstIfAny (UnboundedUntil (print f)) (first_unbounded 0 f)
 places f l = (
   firsts (LargeNumber (print f)) (first_large 0 f) (λ p h. (large_stands (print f) f 0 (length (print f)) p l all h).0) large,
   firsts (UnboundedUntil (print f)) (first_unbounded 0 f) (λ p h. (p_stands (print f) f 0 (length (print f)) p l all h).0) unbounded_found,

@@ -3,13 +3,14 @@ use Rattle.std.proofs.Common.{◌≡◌, ℕ, zero, suc, Bool, true, false, ◌+
 use Rattle.std.specs.Result.{IsOk}
 use Rattle.std.proofs.Math.Seq.{take-append-add}
 use Rattle.std.proofs.lemmas.List.{drop_all, set_at, take_all}
+use Rattle.std.proofs.lemmas.Option.{none-some}
 use Rattle.model.specs.Mdp.{over}
 use Rattle.text.specs.Refusals.{ask, first}
 use Rattle.theory.specs.Formulas.{Formula}
 use Rattle.grammar.specs.Words.{Language, Shut, Stands, Refused}
 use Rattle.grammar.specs.Spelling.{print, Spelled}
 use Rattle.grammar.specs.Languages.{StateWord}
-use Rattle.grammar.proofs.Readings.{only}
+use Rattle.grammar.proofs.Readings.{only, one_reading}
 use Rattle.records.specs.declared.record.Record.{Record}
 use Rattle.records.specs.declared.fault.FormulaFault.{FormulaFault}
 use Rattle.records.specs.declared.fault.FormulaFault.TheVariants as fault
@@ -18,12 +19,12 @@ use Rattle.records.specs.declared.fault.JudgeFault.TheVariants as judge
 use Rattle.formula.specs.declared.reading.Reading.{Reading}
 use Rattle.formula.specs.Records.{size, records}
 use Rattle.formula.specs.Questions.{first_large, first_unbounded, placed, fault_by, formula_fault}
-use Rattle.formula.specs.Places.{LargeNumber, UnboundedUntil, FirstIfAny}
+use Rattle.formula.specs.Places.{LargeNumber, UnboundedUntil}
 use Rattle.formula.specs.Readings.{overlaid, StateRead, StateReads}
-use Rattle.formula.specs.Answers.{Begins, NoFormula, WholeRead, Within, Placed, Accepted, Faulty, FormulaAnswer, JudgeAnswer}
+use Rattle.formula.specs.Answers.{Begins, NoFormula, WholeRead, Within, PlaceIsFirst, Accepted, Faulty, FormulaAnswer, JudgeAnswer}
 use Rattle.formula.proofs.Forms.{state_word, length_records}
 use Rattle.formula.proofs.Limits.{limits}
-use Rattle.formula.proofs.Places.{places}
+use Rattle.formula.proofs.Places.{FirstIfAny, places}
 
 -- the beginning of a list that goes past its front
 take_past : (u v : List ℕ) (m n : ℕ) → n ≡ length u + m → take n (u ++ v) ≡ u ++ take m v
@@ -121,12 +122,16 @@ until_told None true true (Some q) p e = cc
 until_told None true true None p e = absurd cc
 
 -- so the place of a formula's fault is the first of its kind
-fault_placed : (f : Formula) → Spelled f → (n : ℕ) (e : FormulaFault) → formula_fault n f ≡ Some e → Placed (print f) e
+fault_placed : (f : Formula) → Spelled f → (n : ℕ) (e : FormulaFault) → formula_fault n f ≡ Some e → PlaceIsFirst (print f) e
 fault_placed f l n (fault.NoFormula p) x = tt
 fault_placed f l n (fault.Number p) x = subst (FirstIfAny (LargeNumber (print f))) (number_told (first_large 0 f) _ _ (first_unbounded 0 f) p x) (places f l).0
 fault_placed f l n fault.Depth x = tt
 fault_placed f l n fault.Records x = tt
 fault_placed f l n (fault.Until p) x = subst (FirstIfAny (UnboundedUntil (print f))) (until_told (first_large 0 f) _ _ (first_unbounded 0 f) p x) (places f l).1
+
+-- a text spells no other formula
+pub only_spelled : (text : List ℕ) (f : Formula) → Spelled f → text ≡ print f → (other : Formula) → Spelled other → text ≡ print other → other ≡ f
+only_spelled text f spelled spells other s e = one_reading other f s spelled (sym e ∙ spells)
 
 -- a text whose formula has this fault is refused with it
 pub faulty : {text : List ℕ} {r : Reading} (n : ℕ) (s : WholeRead text r) (e : FormulaFault) → fault_by r.large r.depth r.count n r.unbounded ≡ Some e → (lent : List Record) → length lent ≡ n → FormulaAnswer text lent lent (Err e)
@@ -134,11 +139,16 @@ faulty {text} {r} n s e x lent l = each e (record {
   formula = s.formula;
   spelled = s.spelled;
   spells = s.spells;
-  refused = ap (λ k. formula_fault k s.formula) l ∙ sym (same_fault n s) ∙ x;
-  first = subst (λ z. Placed z e) (sym s.spells) (fault_placed s.formula s.spelled n e (sym (same_fault n s) ∙ x));
+  only = only_spelled text s.formula s.spelled s.spells;
+  beyond = λ within. let clear = (limits (length lent) s.formula s.spelled).1 within in none-some e (sym clear ∙ found);
+  refused = found;
+  first = subst (λ z. PlaceIsFirst z e) (sym s.spells) (fault_placed s.formula s.spelled n e (sym (same_fault n s) ∙ x));
   kept = refl;
 }) x
   where
+    found : formula_fault (length lent) s.formula ≡ Some e
+    found = ap (λ k. formula_fault k s.formula) l ∙ sym (same_fault n s) ∙ x
+
     each : (e : FormulaFault) → Faulty text lent lent e → fault_by r.large r.depth r.count n r.unbounded ≡ Some e → FormulaAnswer text lent lent (Err e)
     each (fault.NoFormula p) f x = absurd (no_question r.large _ _ r.unbounded p x)
     each (fault.Number p) f x = f
@@ -172,7 +182,8 @@ accepted n s clear lent l = record {
   formula = s.formula;
   spelled = s.spelled;
   spells = s.spells;
-  limits = ap (λ k. formula_fault k s.formula) l ∙ sym (same_fault n s) ∙ clear;
+  only = only_spelled _ s.formula s.spelled s.spells;
+  within = (limits (length lent) s.formula s.spelled).0 (ap (λ k. formula_fault k s.formula) l ∙ sym (same_fault n s) ∙ clear);
   number = s.counts;
   written = refl;
 }
@@ -183,20 +194,18 @@ filled {text} {lent} {left} {left'} {n} {r} s again = record {
   formula = s.formula;
   spelled = s.spelled;
   spells = s.spells;
-  limits = s.limits;
+  only = s.only;
+  within = s.within;
   number = s.number;
   written =
       again.written
       ∙ ap (λ z. overlaid lent 0 (records 0 z)) (same_formula again s.formula s.spelled s.spells)
-      ∙ overlaid_at [] lent (records 0 s.formula) 0 refl (omega (arith, all, within.room))
-      ∙ ap (λ z. z ++ drop (length (records 0 s.formula)) lent) (sym (take_all (length lent) (records 0 s.formula) (omega (arith, all, within.room))));
+      ∙ overlaid_at [] lent (records 0 s.formula) 0 refl (omega (arith, all, s.within.room))
+      ∙ ap (λ z. z ++ drop (length (records 0 s.formula)) lent) (sym (take_all (length lent) (records 0 s.formula) (omega (arith, all, s.within.room))));
 }
   where
     all : length (records 0 s.formula) ≡ size s.formula
     all = length_records s.formula 0
-
-    within : Within (length lent) s.formula
-    within = (limits (length lent) s.formula s.spelled).0 s.limits
 
 -- a text that spells a formula is read
 pub is_read : {text : List ℕ} (lent left : List Record) (r : Result Reading ℕ) → StateReads text 0 0 lent left r → StateWord text → IsOk r

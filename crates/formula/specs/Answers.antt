@@ -12,7 +12,7 @@ use Rattle.records.specs.declared.fault.JudgeFault.TheVariants as judge
 use Rattle.formula.specs.Records.{size, records}
 use Rattle.formula.specs.declared.reading.Reading.{Reading}
 use Rattle.formula.specs.Questions.{first_large, first_unbounded, depth, formula_fault}
-use Rattle.formula.specs.Places.{LargeNumber, UnboundedUntil, FirstAt, FirstIfAny}
+use Rattle.formula.specs.Places.{LargeNumber, UnboundedUntil, FirstAt}
 
 -- w begins the text of a formula, of whatever length and depth
 abbrev pub Begins : List ℕ → Type 0
@@ -32,41 +32,36 @@ pub record Within (lent : ℕ) (f : Formula) : Type 0 where
   pub few : size f ≤ 64
   pub room : size f ≤ lent
 
--- the theorem of the limits: just the formulas within them have no fault
-abbrev pub Limits : Type 0
-Limits = (lent : ℕ) (f : Formula) → Spelled f → (formula_fault lent f ≡ None) ↔ Within lent f
-
--- the theorem of the places: the place that is told of numbers is that of the first number above its own limit, and the
--- other that of the first `P` over an until without steps that may not stand there; none is told where there is none
-abbrev pub Places : Type 0
-Places = (f : Formula) → Spelled f →
-    FirstIfAny (LargeNumber (print f)) (first_large 0 f) × FirstIfAny (UnboundedUntil (print f)) (first_unbounded 0 f)
-
 -- what the place of a fault says of the text: there begins the first number above its own limit, or the first `P` that
 -- may not stand over its until
-abbrev pub Placed : List ℕ → FormulaFault → Type 0
-Placed text (fault.NoFormula p) = Unit {0}
-Placed text (fault.Number p) = FirstAt (LargeNumber text) p
-Placed text fault.Depth = Unit {0}
-Placed text fault.Records = Unit {0}
-Placed text (fault.Until p) = FirstAt (UnboundedUntil text) p
+abbrev pub PlaceIsFirst : List ℕ → FormulaFault → Type 0
+PlaceIsFirst text (fault.NoFormula p) = Unit {0}
+PlaceIsFirst text (fault.Number p) = FirstAt (LargeNumber text) p
+PlaceIsFirst text fault.Depth = Unit {0}
+PlaceIsFirst text fault.Records = Unit {0}
+PlaceIsFirst text (fault.Until p) = FirstAt (UnboundedUntil text) p
 
--- the text spells a formula that has no fault; its records are written over the front of those lent, and their number is told
+-- the text spells just one formula, which is within the limits; its records are written over the front of those lent, and their number
+-- is told
 pub record Accepted (text : List ℕ) (lent left : List Record) (n : ℕ) : Type 0 where
   pub formula : Formula
   pub spelled : Spelled formula
   pub spells : text ≡ print formula
-  pub limits : formula_fault (length lent) formula ≡ None
+  pub only : (other : Formula) → Spelled other → text ≡ print other → other ≡ formula
+  pub within : Within (length lent) formula
   pub number : n ≡ size formula
   pub written : left ≡ over (records 0 formula) lent
 
--- the text spells a formula that has this fault, whose place is the first of its kind, and no record is changed
+-- the text spells just one formula, which is not within the limits and has this fault, whose place is the first of its kind; and no
+-- record is changed
 pub record Faulty (text : List ℕ) (lent left : List Record) (e : FormulaFault) : Type 0 where
   pub formula : Formula
   pub spelled : Spelled formula
   pub spells : text ≡ print formula
+  pub only : (other : Formula) → Spelled other → text ≡ print other → other ≡ formula
+  pub beyond : ¬ (Within (length lent) formula)
   pub refused : formula_fault (length lent) formula ≡ Some e
-  pub first : Placed text e
+  pub first : PlaceIsFirst text e
   pub kept : left ≡ lent
 
 -- what is answered of the text of a formula

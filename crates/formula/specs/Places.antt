@@ -49,8 +49,3 @@ pub record UnboundedUntil (text : List ℕ) (p : ℕ) : Type 0 where
 pub record FirstAt (P : ℕ → Type 0) (p : ℕ) : Type 0 where
   pub here : P p
   pub least : (q : ℕ) → P q → p ≤ q
-
--- the least place of which P holds, if it holds of any
-abbrev pub FirstIfAny : (ℕ → Type 0) → Option ℕ → Type 0
-FirstIfAny P None = (p : ℕ) → P p → ⊥
-FirstIfAny P (Some p) = FirstAt P p

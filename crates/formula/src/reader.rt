@@ -1,7 +1,6 @@
 ghost use Rattle.std.specs.Prelude.{◌≡◌, List, length, Some, None, MatchResult};
-ghost use Rattle.grammar.specs.Spelling.{OneReading};
 ghost use Rattle.formula.specs.Questions.{fault_by};
-ghost use Rattle.formula.specs.Answers.{Limits, Places, FormulaAnswer, JudgeAnswer, CountAnswer, Surveyed};
+ghost use Rattle.formula.specs.Answers.{FormulaAnswer, JudgeAnswer, CountAnswer, Surveyed};
 ghost use Rattle.records.specs.declared.record.Record.{Record as RecordValue};
 
 use crate::cursor::Cursor;
@@ -34,10 +33,7 @@ fn formula_count(text: &[u8], lent: usize) -> Result<usize, FormulaFault>
 // the left part, then the right, then the whole. It answers how many they are; a refusal changes no record. The text is
 // read once to be asked, and once more to fill the records.
 pub fn read_formula(text: &[u8], records: &mut [Record]) -> Result<usize, JudgeFault>
-    ensures reading { OneReading }
-    ensures limits { Limits }
-    ensures places { Places }
-    ensures answer { JudgeAnswer text.now records.old records.new result }
+    ensures { JudgeAnswer text.now records.old records.new result }
 {
     let count = record_count(text, records.len())?;
     state_formula(Cursor { text, at: 0 }, records, 0).unwrap();

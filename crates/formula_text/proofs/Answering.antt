@@ -8,17 +8,16 @@ use Rattle.records.specs.declared.fault.JudgeFault.{JudgeFault}
 use Rattle.records.specs.declared.fault.JudgeFault.TheVariants.{Length, Formula, Scratch, Out}
 use Rattle.formula.specs.Records.{records}
 use Rattle.formula.specs.Questions.{formula_fault}
-use Rattle.formula.specs.Answers.{Within, Limits, Accepted, Faulty, JudgeAnswer}
+use Rattle.formula.specs.Answers.{Within, Accepted, Faulty, JudgeAnswer}
 use Rattle.formula.proofs.Forms.{length_records}
 use Rattle.formula_text.specs.Tables.{records_table}
 use Rattle.formula_text.specs.Answers.{Tabled, lent_records}
 
 -- the records that an accepted text leaves at the front of those lent are those of its formula
-pub tabled : (text bytes : List ℕ) (blank left : List Record) (n : ℕ) → length blank ≡ lent_records → Limits → Accepted text blank left n → bytes ≡ records_table (take n left) → Tabled text bytes
-tabled text bytes blank left n long limits a e =
+pub tabled : (text bytes : List ℕ) (blank left : List Record) (n : ℕ) → length blank ≡ lent_records → Accepted text blank left n → bytes ≡ records_table (take n left) → Tabled text bytes
+tabled text bytes blank left n long a e =
     let f = a.formula in
-    let within : Within (length blank) f = (limits (length blank) f a.spelled).0 a.limits in
-    let room = within.room in
+    let room = a.within.room in
     let all = length_records f 0 in
     let few = a.number in
     let front : take n left ≡ records 0 f = ap (take n) a.written ∙ take_over (records 0 f) blank (omega arith) n (omega arith) in
@@ -26,7 +25,7 @@ tabled text bytes blank left n long limits a e =
       formula = f;
       spelled = a.spelled;
       spells = a.spells;
-      within = subst (λ k. Within k f) long within;
+      within = subst (λ k. Within k f) long a.within;
       table = e ∙ ap records_table front;
     }
 
@@ -36,6 +35,8 @@ faulty text blank left other e same f = record {
   formula = f.formula;
   spelled = f.spelled;
   spells = f.spells;
+  only = f.only;
+  beyond = λ within. f.beyond (subst (λ k. Within k f.formula) same within);
   refused = ap (λ k. formula_fault k f.formula) same ∙ f.refused;
   first = f.first;
   kept = refl;

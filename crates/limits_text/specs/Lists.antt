@@ -63,7 +63,8 @@ abbrev pub ListWritten : Mdp → List ℕ → Written → Type 0
 ListWritten m list w = LinesWritten m (formula_count list) 0 1 (list_lines list) w
 
 -- what is written of a list, whose formulas have these outcomes; its reports keep the promise
-pub record ListReported (m : Mdp) (list : List ℕ) (outcomes : List Outcome) (w : Written) : Type 0 where
+pub record ListReported (m : Mdp) (list : List ℕ) (outcomes : List Outcome) (w : Written)
+    : Type 0 where
   pub lines : ListWritten m list w
   pub promise : Promise m w.reports
   pub outcomes_are : outcomes ≡ w.outcomes
@@ -98,13 +99,16 @@ pub record LineTorn (m : Mdp) (k : ℕ) (line : List ℕ) (o o' : Option (List �
 -- that and a beginning of its report
 pub record LineBegun (m : Mdp) (n i k : ℕ) (line : List ℕ) (w : Written) : Type 0 where
   pub told : StartsWith (progress_before (i + 1) n line) w.progress
-  pub said : (w.reports ≡ []) ⊎ ((w.progress ≡ progress_before (i + 1) n line) × BeginsReport m k line w.reports)
+  pub said : (w.reports ≡ []) ⊎
+      ((w.progress ≡ progress_before (i + 1) n line) × BeginsReport m k line w.reports)
   pub outcomes : w.outcomes ≡ []
 
 -- a beginning of what is written of the lines from number k on: of the first, or all of the first and a beginning of the rest
 abbrev pub LinesBegun : Mdp → ℕ → ℕ → ℕ → List (List ℕ) → Written → Type 0
 LinesBegun m n i k [] w = w ≡ nothing
-LinesBegun m n i k (l ∷ ls) w = LineBegun m n i k l w ⊎ ((first : Written) × (rest : Written) × LineWritten m n i k l first × LinesBegun m n (i + length first.outcomes) (k + 1) ls rest × (w ≡ and_more first rest))
+LinesBegun m n i k (l ∷ ls) w = LineBegun m n i k l w ⊎
+    ((first : Written) × (rest : Written) × LineWritten m n i k l first
+    × LinesBegun m n (i + length first.outcomes) (k + 1) ls rest × (w ≡ and_more first rest))
 
 -- a beginning of what is written of a list: the reports of lines from the first on, and a beginning of the next; they keep the promise
 pub record ListBegun (m : Mdp) (list : List ℕ) (w : Written) : Type 0 where

@@ -40,7 +40,7 @@ fn progress_text(heap: Global, number: usize, formulas: usize) -> Result<String,
     }
 }
 
-// Tells that a formula comes next. The text is made before it is written: `write!` says nothing of what an error leaves.
+// Tells that a formula comes next.
 fn tell<P: Write>(heap: Global, progress: &mut P, number: usize, formulas: usize) -> io::Result<()>
     ensures whole { OnOk result (Appends (P.Write.contents progress.old)
         (P.Write.contents progress.new) (progress_line number formulas)) }
@@ -91,7 +91,7 @@ fn report_line<S: Source, W: Write>(
 
 // Judges the lines of a list over a source, one after another. The report of each is written before the next is judged, and
 // before each formula its number is told where there are several. Answers the outcomes of the formulas. Where there is no memory
-// or a write fails, a beginning of all this was written and told: of the lines before one, and of that one.
+// or a write fails, what was written are the reports of the first lines, whole, and at most a beginning of the next.
 pub fn report_list<S: Source, W: Write, P: Write>(
     heap: Global,
     source: &S,

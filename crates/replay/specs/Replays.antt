@@ -2,7 +2,7 @@
 use Rattle.std.specs.Prelude.{◌≡◌, ℕ, ◌<◌, ◌≤◌, List, length, take, slice_get, Some, Option, IfSome, IfOk}
 use Rattle.model.specs.Mdp.{Mdp}
 use Rattle.theory.specs.Mixes.{whole}
-use Rattle.trial.specs.Queries.{Query, lower_end, upper_end, Bounds}
+use Rattle.trial.specs.Queries.{Query, lower_end, upper_end, EndsOf}
 use Rattle.trial.specs.Answers.{answer, start_fault, advance_fault, ends_answer, verdict_answer}
 use Rattle.trial.specs.Judging.{lent, JudgeResult}
 use Rattle.trial.specs.Meanings.{EndsMean, VerdictMeans, JudgeMeans}
@@ -35,7 +35,7 @@ Means m o c = Unit {0}
 pub record Pair (m : Mdp) (q : Query) (s : ℕ) : Type 0 where
   pub lower_within : lower_end m q s ≤ whole
   pub upper_within : upper_end m q s ≤ whole
-  pub bounds : Bounds m q s (lower_end m q s) (upper_end m q s)
+  pub bounds : EndsOf m q s (lower_end m q s) (upper_end m q s)
 
 -- exactly one query stands after the calls, or none does
 pub record OneStands (calls : List Call) : Type 0 where

@@ -78,7 +78,7 @@ fields_fit line = counted (word line) (length line)
 abbrev pub number_fits : ℕ → Line → Bool
 number_fits k line = on (Mdp ∷ Branch ∷ []) line (lawful_number (field k line))
 
--- 6: does each number of the line lie between the least and the most that it may be?
+-- 6: are states, denominator and target in range, and the weight 1 to the denominator?
 abbrev pub range_fits : List Line → Line → Bool
 range_fits before line =
     on (Mdp ∷ []) line (between 1 512 (number 1 line) && between 1 1000000 (number 2 line))
@@ -88,11 +88,11 @@ range_fits before line =
 abbrev pub labels_fit : Line → Bool
 labels_fit line = on (State ∷ []) line (lawful_labels (field 1 line))
 
--- 8: does the target lie above that of the branch before?
+-- 8: is the target above the one before in its row?
 abbrev pub order_fits : List Line → Line → Bool
 order_fits before line = on (Branch ∷ []) line (above_last before (number 1 line))
 
--- 9: has a row that this line closes all the parts of the denominator?
+-- 9: does the row that this line closes sum to the denominator?
 abbrev pub sum_fits : List Line → Line → Bool
 sum_fits before line = on (State ∷ Choice ∷ End ∷ []) line (closed before)
 

@@ -1,12 +1,12 @@
 -- Every formula has verdicts, on the states only one, and they are right and near: those that rounds and marks find are meant.
-use Rattle.std.proofs.Common.{ℕ, ◌<◌, Bool, true, false, not, ◌&&◌, Some, None, Option, sym, refl, ap, ◌∙◌, ap₂}
+use Rattle.std.proofs.Common.{◌≡◌, ℕ, ◌<◌, Bool, true, false, not, ◌&&◌, Some, None, Option, sym, refl, ap, ◌∙◌, ap₂}
 use Rattle.model.specs.Mdp.{Mdp, Lawful}
 use Rattle.theory.specs.WithoutSteps.{Extremal, over_none, at_most_none, at_least_whole, WithoutSteps, marked_set}
-use Rattle.theory.specs.Formulas.{Comparison, Formula, truth, label, negation, conjunction, probability, PathFormula, next, until_within, until, extremal, SetOf}
+use Rattle.theory.specs.Formulas.{Comparison, Formula, truth, label, negation, conjunction, probability, PathFormula, next, until_within, until, extremal, has_label, SetOf}
 use Rattle.theory.specs.Verdicts.{VerdictSets, Alike, SameVerdicts, known, negated, joined, next_verdicts, until_within_verdicts, ExtremalJudged, UntilJudged, Judged, PathJudged, OneVerdict, VerdictsCorrect}
-use Rattle.theory.specs.Distances.{Decided, Undecided, UntilNear, NextNear, WithoutStepsDecided}
+use Rattle.theory.specs.Distances.{Decided, Undecided, NearBound, UntilNear, NextNear, WithoutStepsDecided}
 use Rattle.theory.proofs.Meaning.{marked_iff, hardest, hardest_next}
-use Rattle.theory.specs.Found.{extremal_verdicts, until_verdicts, verdicts, path_verdicts, UndecidedNear, VerdictMeans, AllJudgedRightly}
+use Rattle.theory.specs.Found.{extremal_verdicts, until_verdicts, verdicts, path_verdicts, VerdictMeans, AllJudgedRightly}
 use Rattle.theory.proofs.Alike.{next_verdicts_alike, until_within_verdicts_alike, extremal_verdicts_alike}
 use Rattle.theory.proofs.Judge.{sound}
 use Rattle.theory.proofs.Near.{same_set, one_set, within_value, next_value, formula_near, formula_next_near, extremal_decided}
@@ -143,11 +143,23 @@ without_steps_decided m l c b f g v w u i j h x y =
 
 module _ (m : Mdp) (l : Lawful m) (s : ℕ) (p : s < m.states) where
   -- an undecided formula is near its bound
-  undecided_near : (f : Formula) → Undecided (verdicts m f) s → UndecidedNear m f s
-  undecided_near truth u = tt
-  undecided_near (label i) u = tt
-  undecided_near (negation f) u = tt
-  undecided_near (conjunction f g) u = tt
+  undecided_near : (f : Formula) → Undecided (verdicts m f) s → NearBound m (λ g. Decided m (verdicts m g)) f s
+  undecided_near truth u = let a : true ≡ false = u.not_sure in absurd cc
+  undecided_near (label i) u = let a : has_label m i s ≡ false = u.not_sure in let b : has_label m i s ≡ true = u.is_possible in absurd cc
+  undecided_near (negation f) u = λ x.
+      let v = verdicts m f in
+      let a : not (v.possible s) ≡ false = u.not_sure in
+      let b : not (v.sure s) ≡ true = u.is_possible in
+      let same : v.sure s ≡ v.possible s = x s p in
+      absurd cc
+  undecided_near (conjunction f g) u = λ x y.
+      let v = verdicts m f in
+      let w = verdicts m g in
+      let a : (v.sure s && w.sure s) ≡ false = u.not_sure in
+      let b : (v.possible s && w.possible s) ≡ true = u.is_possible in
+      let same : v.sure s ≡ v.possible s = x s p in
+      let like : w.sure s ≡ w.possible s = y s p in
+      absurd cc
   undecided_near (probability c b (next f)) u = λ x set q. let e = next_value m l s p c set in (hardest_next c set m s, e, formula_next_near m l c b f x s p u set q (hardest_next c set m s) e)
   undecided_near (probability c b (until_within k f g)) u = λ x y left right q r.
       let e = within_value m l s p c left right k in (hardest c left right k m s, e, formula_near m l c b k f g x y s p u left right q r (hardest c left right k m s) e)

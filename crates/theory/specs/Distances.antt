@@ -5,7 +5,7 @@ use Rattle.theory.specs.Adversaries.{Adversary, Allowed}
 use Rattle.theory.specs.Tallies.{tally, next_tally}
 use Rattle.theory.specs.Mixes.{whole}
 use Rattle.theory.specs.Ends.{lower, upper}
-use Rattle.theory.specs.Formulas.{Comparison, below, at_most, above, at_least, Formula, probability, next, until_within, until, Fits, SetOf, Holds}
+use Rattle.theory.specs.Formulas.{Comparison, below, at_most, above, at_least, Formula, truth, label, negation, conjunction, probability, next, until_within, until, Fits, SetOf, Holds}
 use Rattle.theory.specs.Verdicts.{VerdictSets, asked, read_off, Judged}
 
 -- whatever bound x fits, y fits too
@@ -25,6 +25,10 @@ pub record WithinUnits (u b all x : ℕ) : Type 0 where
   pub not_over : x * whole ≤ b * all + u * all
   pub not_under : b * all ≤ x * whole + u * all
 
+-- the adversaries' tallies, out of `all`, have a value that the comparison is decided by, and it lies within u units of the bound b
+abbrev pub ValueWithin : ℕ → Comparison → ℕ → ℕ → Mdp → (Adversary → ℕ) → Type 0
+ValueWithin u c b all m tallied = (x : ℕ) × StateValue c m tallied x × WithinUnits u b all x
+
 -- no state is undecided
 abbrev pub Decided : Mdp → VerdictSets → Type 0
 Decided m v = (s : ℕ) → s < m.states → v.sure s ≡ v.possible s
@@ -40,7 +44,23 @@ UntilNear = (m : Mdp) → Lawful m → (c : Comparison) (b k : ℕ) (f g : Formu
     Judged m f v → Judged m g w → Judged m (probability c b (until_within k f g)) u → Decided m v → Decided m w →
     (s : ℕ) → s < m.states → Undecided u s →
     (left right : ℕ → Bool) → SetOf m (Holds m f) left → SetOf m (Holds m g) right →
-    (x : ℕ) × StateValue c m (λ σ. tally left right k m σ s) x × WithinUnits k b (m.denominator ^ k) x
+    ValueWithin k c b (m.denominator ^ k) m (λ σ. tally left right k m σ s)
+
+-- what is known of a formula where it is undecided, if its parts are decided in some sense: it is a next, and its value lies within one
+-- unit of the bound, or an until with k steps, and its value lies within k units; no other formula is undecided then
+abbrev pub NearBound : Mdp → (Formula → Type 0) → Formula → ℕ → Type 0
+NearBound m IsDecided truth s = ⊥
+NearBound m IsDecided (label i) s = ⊥
+NearBound m IsDecided (negation f) s = IsDecided f → ⊥
+NearBound m IsDecided (conjunction f g) s = IsDecided f → IsDecided g → ⊥
+NearBound m IsDecided (probability c b (next f)) s =
+    IsDecided f → (set : ℕ → Bool) → SetOf m (Holds m f) set →
+    ValueWithin 1 c b (m.denominator ^ 1) m (λ σ. next_tally set m σ s)
+NearBound m IsDecided (probability c b (until_within k f g)) s =
+    IsDecided f → IsDecided g →
+    (left right : ℕ → Bool) → SetOf m (Holds m f) left → SetOf m (Holds m g) right →
+    ValueWithin k c b (m.denominator ^ k) m (λ σ. tally left right k m σ s)
+NearBound m IsDecided (probability c b (until f g)) s = IsDecided f → IsDecided g → ⊥
 
 -- an undecided next over a decided part: the same within one unit
 abbrev pub NextNear : Type 0
@@ -48,7 +68,7 @@ NextNear = (m : Mdp) → Lawful m → (c : Comparison) (b : ℕ) (f : Formula) (
     Judged m f v → Judged m (probability c b (next f)) u → Decided m v →
     (s : ℕ) → s < m.states → Undecided u s →
     (set : ℕ → Bool) → SetOf m (Holds m f) set →
-    (x : ℕ) × StateValue c m (λ σ. next_tally set m σ s) x × WithinUnits 1 b (m.denominator ^ 1) x
+    ValueWithin 1 c b (m.denominator ^ 1) m (λ σ. next_tally set m σ s)
 
 -- an until without steps over decided parts is decided
 abbrev pub WithoutStepsDecided : Type 0
@@ -63,7 +83,8 @@ query_verdicts c b k left right m = read_off c b (lower (asked c) left right k m
 pub record QueryVerdict (c : Comparison) (b k : ℕ) (left right : ℕ → Bool) (m : Mdp) (s : ℕ) : Type 0 where
   pub yes_holds : (query_verdicts c b k left right m).sure s ≡ true → (σ : Adversary) → Allowed m σ → Fits c (tally left right k m σ s * whole) (b * m.denominator ^ k)
   pub no_fails : (query_verdicts c b k left right m).possible s ≡ false → (σ : Adversary) × Allowed m σ × ¬ (Fits c (tally left right k m σ s * whole) (b * m.denominator ^ k))
-  pub undecided_near : Undecided (query_verdicts c b k left right m) s → (x : ℕ) × StateValue c m (λ σ. tally left right k m σ s) x × WithinUnits k b (m.denominator ^ k) x
+  pub undecided_near : Undecided (query_verdicts c b k left right m) s →
+      ValueWithin k c b (m.denominator ^ k) m (λ σ. tally left right k m σ s)
 
 -- the theorem of a query's verdicts
 abbrev pub QueriesCorrect : Type 0

@@ -7,7 +7,7 @@ use Rattle.theory.specs.Ends.{lower, upper, next_lower, next_upper, BoundsBest, 
 use Rattle.theory.specs.WithoutSteps.{Extremal, over_none, at_most_none, at_least_whole, marked_set}
 use Rattle.theory.specs.Formulas.{Comparison, below, at_most, above, at_least, Formula, truth, label, negation, conjunction, probability, PathFormula, next, until_within, until, extremal, has_label, SetOf, Holds, HasOneSet}
 use Rattle.theory.specs.Verdicts.{VerdictSets, asked, known, negated, joined, next_verdicts, until_within_verdicts, SameVerdicts, Judged}
-use Rattle.theory.specs.Distances.{StateValue, WithinUnits, Decided, Undecided}
+use Rattle.theory.specs.Distances.{Decided, Undecided, NearBound}
 
 -- until without steps: what the settled marks find on the sure states of the parts, and on the possible ones
 abbrev pub extremal_verdicts : Extremal → Mdp → VerdictSets → VerdictSets → VerdictSets
@@ -63,7 +63,7 @@ BoundsBy above m tallied all lo hi = BoundsWorst m tallied all lo hi
 BoundsBy at_least m tallied all lo hi = BoundsWorst m tallied all lo hi
 
 -- lo and hi bound a formula at a state: the tallies of a next and of an until with steps, over the sets of states of its parts, which
--- need not be decided; no numbers bound another formula
+-- need not be decided; no other formula has ends
 abbrev pub BoundsFormula : Mdp → Formula → ℕ → ℕ → ℕ → Type 0
 BoundsFormula m truth s lo hi = ⊥
 BoundsFormula m (label i) s lo hi = ⊥
@@ -82,25 +82,11 @@ abbrev pub FormulaEndsBound : Type 0
 FormulaEndsBound = (m : Mdp) → Lawful m → (f : Formula) (ends : TwoEnds) → ends_of m f ≡ Some ends →
     (s : ℕ) → s < m.states → BoundsFormula m f s (ends.0 s) (ends.1 s)
 
--- what is known of a formula where it is undecided: a next over a decided part has a value within one unit of the bound, an until with k steps over
--- decided parts one within k units, and an until without steps is undecided only if a part is; other formulas have no bound
-abbrev pub UndecidedNear : Mdp → Formula → ℕ → Type 0
-UndecidedNear m truth s = Unit {0}
-UndecidedNear m (label i) s = Unit {0}
-UndecidedNear m (negation f) s = Unit {0}
-UndecidedNear m (conjunction f g) s = Unit {0}
-UndecidedNear m (probability c b (next f)) s = Decided m (verdicts m f) → (set : ℕ → Bool) → SetOf m (Holds m f) set →
-    (x : ℕ) × StateValue c m (λ σ. next_tally set m σ s) x × WithinUnits 1 b (m.denominator ^ 1) x
-UndecidedNear m (probability c b (until_within k f g)) s = Decided m (verdicts m f) → Decided m (verdicts m g) →
-    (left right : ℕ → Bool) → SetOf m (Holds m f) left → SetOf m (Holds m g) right →
-    (x : ℕ) × StateValue c m (λ σ. tally left right k m σ s) x × WithinUnits k b (m.denominator ^ k) x
-UndecidedNear m (probability c b (until f g)) s = Decided m (verdicts m f) → Decided m (verdicts m g) → ⊥
-
 -- what the verdict on a formula at a state means: a yes holds, a no fails, and an undecided one is near its bound
 pub record VerdictMeans (m : Mdp) (f : Formula) (s : ℕ) : Type 0 where
   pub yes_holds : (verdicts m f).sure s ≡ true → Holds m f s
   pub no_fails : (verdicts m f).possible s ≡ false → ¬ (Holds m f s)
-  pub undecided_near : Undecided (verdicts m f) s → UndecidedNear m f s
+  pub undecided_near : Undecided (verdicts m f) s → NearBound m (λ g. Decided m (verdicts m g)) f s
 
 -- a formula is judged rightly: the verdicts are those that are defined and the only ones, they mean what they say at every state, and
 -- the formula has exactly one set of states, so that none of this is said of nothing

@@ -8,7 +8,7 @@ use Rattle.theory.specs.Mixes.{mix_marks, no_first, yes_first}
 use Rattle.theory.specs.Ends.{held}
 
 module _ (left right : ℕ → Bool) (m : Mdp) (s : ℕ) where
-  -- of each adversary, some number of steps gives a tally above 0
+  -- for each adversary there is a number of steps with a tally above 0
   abbrev pub Positive : Type 0
   Positive = (σ : Adversary) → Allowed m σ → (k : ℕ) × (0 < tally left right k m σ s)
 

@@ -8,7 +8,6 @@ use Rattle.records.specs.declared.record.Record.{Record}
 use Rattle.formula.specs.Records.{size, parts, records}
 use Rattle.formula.specs.Answers.{Readable, Accepted as TextAccepted, CountAnswer}
 use Rattle.formula.proofs.Forms.{length_records}
-use Rattle.formula.proofs.Limits.{limits}
 use Rattle.trial.specs.Judging.{Buffers, lent, Reads, Accepted, counted_each, row_of, rows_of}
 use Rattle.trial.specs.Evaluation.{row_at, HasRow, Chained}
 use Rattle.trial.proofs.Evaluation.{chained, own_row, own_there, rows_length, length_parts, counted_length}
@@ -23,7 +22,7 @@ some_part (probability c b p) = omega arith
 
 -- a text that is accepted spells a formula within the limits
 pub reads : (text : List ℕ) (given left : List Record) (n : ℕ) → Readable text → (a : TextAccepted text given left n) → Reads text (length given) a.formula
-reads text given left n r a = record { readable = r; spelled = a.spelled; spells = a.spells; within = (limits (length given) a.formula a.spelled).0 a.limits }
+reads text given left n r a = record { readable = r; spelled = a.spelled; spells = a.spells; within = a.within }
 
 -- where it is read once more, the records of the same formula are filled
 pub filled_again : (text : List ℕ) (given left left' : List Record) (n n' : ℕ) (a : TextAccepted text given left n) → TextAccepted text given left' n' → left' ≡ over (records 0 a.formula) given

@@ -6,8 +6,8 @@ use Rattle.model.proofs.Copies.{over_front}
 use Rattle.theory.specs.Ends.{lower, upper}
 use Rattle.theory.specs.Formulas.{Comparison as Compared, Formula, truth, label, negation, conjunction, probability, next, until_within, until, has_label}
 use Rattle.theory.specs.Verdicts.{asked, fits, harder_end, easier_end}
-use Rattle.theory.specs.Distances.{Decided, Undecided}
-use Rattle.theory.specs.Found.{verdicts, TwoEnds, ends_of, BoundsFormula, UndecidedNear}
+use Rattle.theory.specs.Distances.{Decided, Undecided, NearBound}
+use Rattle.theory.specs.Found.{verdicts, TwoEnds, ends_of, BoundsFormula}
 use Rattle.theory.proofs.Near.{one_set, queries_correct}
 use Rattle.theory.proofs.Judge.{sound, formula_ends_bound}
 use Rattle.theory.proofs.Judged.{all_judged_rightly}
@@ -28,15 +28,15 @@ use Rattle.trial.specs.declared.verdict.Verdict.{Verdict}
 use Rattle.trial.specs.declared.verdict.Verdict.TheVariants as verdict
 use Rattle.trial.specs.Aims.{preference_of, aim_for}
 use Rattle.trial.specs.Answers.{same_aim}
-use Rattle.trial.specs.Queries.{Query, marked, lower_end, upper_end, Bounds}
+use Rattle.trial.specs.Queries.{Query, marked, lower_end, upper_end, EndsOf}
 use Rattle.trial.specs.VerdictBytes.{verdict_number, verdict_by, read_verdict}
 use Rattle.trial.specs.Rows.{byte_at}
 use Rattle.trial.specs.Judging.{Buffers, Accepted, counted_each, row_of, rows_of, judged}
 use Rattle.trial.specs.declared.two_ends.Ends.{Ends}
 use Rattle.trial.specs.PathEnds.{Told}
-use Rattle.trial.specs.JudgedEnds.{BoundText}
+use Rattle.trial.specs.JudgedEnds.{BoundFormulaOf}
 use Rattle.trial.specs.Evaluation.{row_at}
-use Rattle.trial.specs.Meanings.{EndsMean, VerdictSays, VerdictMeans, DecidedRow, NearBound, ByteMeans, RowMeans, HasCounts, JudgeMeans}
+use Rattle.trial.specs.Meanings.{EndsMean, VerdictSays, VerdictMeans, DecidedRow, ByteMeans, RowMeans, HasCounts, JudgeMeans}
 use Rattle.trial.proofs.Queries.{bounds_for}
 use Rattle.trial.proofs.Evaluation.{row_after, row_length, rows_length, parts_before, parts_last, length_parts, counted_length}
 
@@ -48,7 +48,7 @@ by_tests P false false holds fails neither = fails refl
 
 module _ (m : Mdp) (l : Lawful m) (s : ℕ) (h : s < m.states) where
   -- numbers that are the ends of a query bound it
-  bound_ends : (q : Query) (lo hi : ℕ) → lo ≡ lower_end m q s → hi ≡ upper_end m q s → Bounds m q s lo hi
+  bound_ends : (q : Query) (lo hi : ℕ) → lo ≡ lower_end m q s → hi ≡ upper_end m q s → EndsOf m q s lo hi
   bound_ends q lo hi e f = rw (e, f) (bounds_for m l q.aim q s h)
 
   -- so two parts of the ends of the query that stands mean what they say
@@ -162,7 +162,7 @@ module _ (m : Mdp) (l : Lawful m) where
   bound_told f (Some two) e own told d s h = rw (told.lower d s h, told.upper d s h) (formula_ends_bound m l f two own s h)
 
   -- so those that are told of a text bound its formula
-  pub told_bound : (text : List ℕ) (ends : Option Ends) → ((f : Formula) → Spelled f → text ≡ print f → Told m.states (ends_of m f) ends) → IfSome ends (BoundText m text)
+  pub told_bound : (text : List ℕ) (ends : Option Ends) → ((f : Formula) → Spelled f → text ≡ print f → Told m.states (ends_of m f) ends) → IfSome ends (BoundFormulaOf m text)
   told_bound text None told = tt
   told_bound text (Some e) told = λ f spelled spells. bound_told f (ends_of m f) e refl (told f spelled spells)
 
@@ -181,26 +181,15 @@ module _ (m : Mdp) (l : Lawful m) where
       not_two ((verdicts m f).sure s) ((verdicts m f).possible s) (within f s h) (λ two. none s 0 long (ap (λ (r : List ℕ). get_or r s 0) e ∙ own_byte f s h ∙ two))
 
   -- so what is known of an undecided state where the parts of a formula are decided is known where their rows have no 2
-  near_bound : (HasDecided : Formula → Type 0) → ((g : Formula) → HasDecided g → Decided m (verdicts m g)) → (f : Formula) (s : ℕ) → s < m.states → Undecided (verdicts m f) s → UndecidedNear m f s → NearBound m HasDecided f s
-  near_bound D d truth s h u n = let a : true ≡ false = u.not_sure in absurd cc
-  near_bound D d (label i) s h u n = let a : has_label m i s ≡ false = u.not_sure in let b : has_label m i s ≡ true = u.is_possible in absurd cc
-  near_bound D d (negation f) s h u n = λ x.
-      let v = verdicts m f in
-      let a : not (v.possible s) ≡ false = u.not_sure in
-      let b : not (v.sure s) ≡ true = u.is_possible in
-      let same : v.sure s ≡ v.possible s = d f x s h in
-      absurd cc
-  near_bound D d (conjunction f g) s h u n = λ x y.
-      let v = verdicts m f in
-      let w = verdicts m g in
-      let a : (v.sure s && w.sure s) ≡ false = u.not_sure in
-      let b : (v.possible s && w.possible s) ≡ true = u.is_possible in
-      let same : v.sure s ≡ v.possible s = d f x s h in
-      let like : w.sure s ≡ w.possible s = d g y s h in
-      absurd cc
-  near_bound D d (probability c b (next f)) s h u n = λ x. n (d f x)
-  near_bound D d (probability c b (until_within k f g)) s h u n = λ x y. n (d f x) (d g y)
-  near_bound D d (probability c b (until f g)) s h u n = λ x y. n (d f x) (d g y)
+  near_bound : (HasDecided : Formula → Type 0) → ((g : Formula) → HasDecided g → Decided m (verdicts m g)) → (f : Formula) (s : ℕ) →
+      NearBound m (λ g. Decided m (verdicts m g)) f s → NearBound m HasDecided f s
+  near_bound D d truth s n = n
+  near_bound D d (label i) s n = n
+  near_bound D d (negation f) s n = λ x. n (d f x)
+  near_bound D d (conjunction f g) s n = λ x y. n (d f x) (d g y)
+  near_bound D d (probability c b (next f)) s n = λ x. n (d f x)
+  near_bound D d (probability c b (until_within k f g)) s n = λ x y. n (d f x) (d g y)
+  near_bound D d (probability c b (until f g)) s n = λ x y. n (d f x) (d g y)
 
   -- the row of a formula means what it says
   pub row_means : (HasDecided : Formula → Type 0) → ((g : Formula) → HasDecided g → Decided m (verdicts m g)) → (f : Formula) (row : List ℕ) → row ≡ row_of m f → RowMeans m HasDecided f row
@@ -217,7 +206,7 @@ module _ (m : Mdp) (l : Lawful m) where
             yes_holds = λ one. means.yes_holds (one_sure x y (sym e ∙ one));
             no_fails = λ none. means.no_fails (none_possible x y (sym e ∙ none));
             undecided = λ two. (verdicts m f, (all_judged_rightly m l f).defined, open_at two);
-            near = λ two. near_bound D d f s h (open_at two) (means.undecided_near (open_at two));
+            near = λ two. near_bound D d f s (means.undecided_near (open_at two));
           }
 
   -- a formula is the last of its parts

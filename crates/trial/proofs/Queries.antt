@@ -22,7 +22,7 @@ use Rattle.trial.specs.declared.fault.TrialFault.{TrialFault}
 use Rattle.trial.specs.Aims.{preference_of, aim_for}
 use Rattle.trial.specs.VerdictBytes.{read_verdict}
 use Rattle.trial.specs.declared.state.QueryState.{QueryState}
-use Rattle.trial.specs.Queries.{Query, marked, lower_end, upper_end, BoundsFor}
+use Rattle.trial.specs.Queries.{Query, marked, lower_end, upper_end, EndsFor}
 use Rattle.trial.specs.Answers.{ends_answer, same_aim, verdict_answer}
 use Rattle.trial.specs.Keeping.{query_in, Keeps, Kept}
 
@@ -52,7 +52,7 @@ module _ (m : Mdp) (flags : List Bool) (t : QueryState) where
 module _ (m : Mdp) (l : Lawful m) where
   -- what the ends of a query mean for all adversaries
   pub bounds_for : (a : Aim) (q : Query) (s : ℕ) → s < m.states →
-      BoundsFor a m q s (lower (prefers_number (preference_of a)) (marked q.left) (marked q.right) q.rounds m s) (upper (prefers_number (preference_of a)) (marked q.left) (marked q.right) q.rounds m s)
+      EndsFor a m q s (lower (prefers_number (preference_of a)) (marked q.left) (marked q.right) q.rounds m s) (upper (prefers_number (preference_of a)) (marked q.left) (marked q.right) q.rounds m s)
   bounds_for Best q s h = (ends_bound (marked q.left) (marked q.right) m l q.rounds s h).0
   bounds_for Worst q s h = (ends_bound (marked q.left) (marked q.right) m l q.rounds s h).1
 

@@ -22,6 +22,6 @@ EndsTold m text (Ok j) = (f : Formula) → Spelled f → text ≡ print f → To
 EndsTold m text (Err e) = Unit {0}
 
 -- what ends that are told of a text mean: at every state the two bound all adversaries, for the formula that the text spells
-abbrev pub BoundText : Mdp → List ℕ → Ends → Type 0
-BoundText m text e = (f : Formula) → Spelled f → text ≡ print f → (d : Part) (s : ℕ) → s < m.states →
+abbrev pub BoundFormulaOf : Mdp → List ℕ → Ends → Type 0
+BoundFormulaOf m text e = (f : Formula) → Spelled f → text ≡ print f → (d : Part) (s : ℕ) → s < m.states →
     BoundsFormula m f s (units_of (slice_index_or e.lower.values s d)) (units_of (slice_index_or e.upper.values s d))

@@ -8,7 +8,7 @@ use Rattle.theory.specs.Tallies.{tally, next_tally}
 use Rattle.theory.specs.Mixes.{whole}
 use Rattle.theory.specs.Formulas.{Comparison, Formula, truth, label, negation, conjunction, probability, next, until_within, until, Fits, SetOf, Holds, HasOneSet}
 use Rattle.theory.specs.Verdicts.{VerdictSets, Judged}
-use Rattle.theory.specs.Distances.{StateValue, WithinUnits, Undecided}
+use Rattle.theory.specs.Distances.{ValueWithin, NearBound, Undecided}
 use Rattle.grammar.specs.Spelling.{print, Spelled}
 use Rattle.rules.specs.declared.part.Part.{Part}
 use Rattle.rules.specs.Parts.{units_of}
@@ -18,7 +18,7 @@ use Rattle.formula.specs.Records.{parts}
 use Rattle.formula.specs.Tokens.{meant}
 use Rattle.trial.specs.declared.verdict.Verdict.{Verdict}
 use Rattle.trial.specs.declared.verdict.Verdict.TheVariants as verdict
-use Rattle.trial.specs.Queries.{Query, query_tally, Bounds}
+use Rattle.trial.specs.Queries.{Query, query_tally, EndsOf}
 use Rattle.trial.specs.Judging.{Buffers}
 use Rattle.trial.specs.Evaluation.{row_at}
 
@@ -26,15 +26,11 @@ use Rattle.trial.specs.Evaluation.{row_at}
 -- bound the tallies of all adversaries over as many steps
 pub record AreEnds (m : Mdp) (q : Query) (s : ℕ) (lower upper : Part) (j : ℕ) : Type 0 where
   pub rounds : j ≡ q.rounds
-  pub bounds : Bounds m q s (units_of lower) (units_of upper)
+  pub bounds : EndsOf m q s (units_of lower) (units_of upper)
 
 -- what answered ends mean: a query stands, and they are its ends
 abbrev pub EndsMean : Mdp → Option Query → ℕ → Part × Part × ℕ → Type 0
 EndsMean m o s r = IsSomeAnd o (λ q. AreEnds m q s r.0 r.1 r.2)
-
--- the adversaries' tallies, out of `all`, have a value that the comparison is decided by, and it lies within u units of the bound b
-abbrev pub ValueWithin : ℕ → Comparison → ℕ → ℕ → Mdp → (Adversary → ℕ) → Type 0
-ValueWithin u c b all m tallied = (x : ℕ) × StateValue c m tallied x × WithinUnits u b all x
 
 -- what a verdict says of a query at a state, under a comparison and a bound b: a yes, that every allowed adversary's tally fits;
 -- a no, that some allowed one's does not; an undecided one, that the state's value lies within as many units of the bound as the
@@ -56,22 +52,6 @@ pub record DecidedRow (n : ℕ) (fs : List Formula) (rows : List ℕ) (g : Formu
   pub number : ℕ
   pub there : slice_get fs number ≡ Some g
   pub decided : All (λ b. b ≢ 2) (row_at n rows number)
-
--- what is known of a formula where it is undecided, if its parts have decided rows: it is a next, and its value lies within one
--- unit of the bound, or an until with k steps, and its value lies within k units; no other formula is undecided then
-abbrev pub NearBound : Mdp → (Formula → Type 0) → Formula → ℕ → Type 0
-NearBound m HasDecided truth s = ⊥
-NearBound m HasDecided (label i) s = ⊥
-NearBound m HasDecided (negation f) s = HasDecided f → ⊥
-NearBound m HasDecided (conjunction f g) s = HasDecided f → HasDecided g → ⊥
-NearBound m HasDecided (probability c b (next f)) s =
-    HasDecided f → (set : ℕ → Bool) → SetOf m (Holds m f) set →
-    ValueWithin 1 c b (m.denominator ^ 1) m (λ σ. next_tally set m σ s)
-NearBound m HasDecided (probability c b (until_within k f g)) s =
-    HasDecided f → HasDecided g →
-    (left right : ℕ → Bool) → SetOf m (Holds m f) left → SetOf m (Holds m g) right →
-    ValueWithin k c b (m.denominator ^ k) m (λ σ. tally left right k m σ s)
-NearBound m HasDecided (probability c b (until f g)) s = HasDecided f → HasDecided g → ⊥
 
 -- the formula is undecided at the state, by the verdicts that it is judged by
 abbrev pub IsUndecided : Mdp → Formula → ℕ → Type 0

@@ -32,12 +32,12 @@ upper_end m q s = upper (prefers_number (preference_of q.aim)) (marked q.left) (
 abbrev pub query_tally : Mdp → Query → ℕ → Adversary → ℕ
 query_tally m q s σ = tally (marked q.left) (marked q.right) q.rounds m σ s
 
--- lo and hi, in units, are ends of the query at a state by an aim: they bound the tallies of all adversaries, and they differ by at
--- most as many units as the query has had rounds
-abbrev pub BoundsFor : Aim → Mdp → Query → ℕ → ℕ → ℕ → Type 0
-BoundsFor Best m q s lo hi = BestEnds q.rounds m (query_tally m q s) (m.denominator ^ q.rounds) lo hi
-BoundsFor Worst m q s lo hi = WorstEnds q.rounds m (query_tally m q s) (m.denominator ^ q.rounds) lo hi
+-- lo and hi, in units, are ends of the query at a state by an aim: they bound the tallies of all adversaries, and they differ by
+-- at most as many units as the query has had rounds
+abbrev pub EndsFor : Aim → Mdp → Query → ℕ → ℕ → ℕ → Type 0
+EndsFor Best m q s lo hi = BestEnds q.rounds m (query_tally m q s) (m.denominator ^ q.rounds) lo hi
+EndsFor Worst m q s lo hi = WorstEnds q.rounds m (query_tally m q s) (m.denominator ^ q.rounds) lo hi
 
--- they are by what the query asks for
-abbrev pub Bounds : Mdp → Query → ℕ → ℕ → ℕ → Type 0
-Bounds m q s lo hi = BoundsFor q.aim m q s lo hi
+-- lo and hi are ends of the query at a state, by its own aim
+abbrev pub EndsOf : Mdp → Query → ℕ → ℕ → ℕ → Type 0
+EndsOf m q s lo hi = EndsFor q.aim m q s lo hi

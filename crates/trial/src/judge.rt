@@ -4,7 +4,7 @@ ghost use Rattle.theory.specs.Formulas.{Formula};
 ghost use Rattle.records.specs.declared.comparison.Comparison.{Comparison as Code};
 ghost use Rattle.trial.specs.Judging.{counted_each, rows_of, lent, JudgeResult};
 ghost use Rattle.trial.specs.PathEnds.{Told, ends_of_last};
-ghost use Rattle.trial.specs.JudgedEnds.{records_of, EndsTold, BoundText};
+ghost use Rattle.trial.specs.JudgedEnds.{records_of, EndsTold, BoundFormulaOf};
 ghost use Rattle.trial.specs.Meanings.{JudgeMeans};
 ghost use Rattle.trial.specs.VerdictBytes.{verdict_number};
 ghost use Rattle.trial.specs.Evaluation.{row_at, HasRow, Needs, row_by, ends_by, Chained};
@@ -159,7 +159,7 @@ pub fn judge_with_ends<S: Source>(
     ensures ends { EndsTold (S.Source.model source.now) text.now result }
     ensures meaning { IfOk (records_of result) (JudgeMeans (S.model source.now) text.now
         (lent records.new scratch.new out.new)) }
-    ensures ends_meaning { IfOk result (λ j. IfSome j.ends (BoundText (S.model source.now) text.now)) }
+    ensures ends_meaning { IfOk result (λ j. IfSome j.ends (BoundFormulaOf (S.model source.now) text.now)) }
 {
     let states = source.states();
     let count = record_count(text, records.len())?;

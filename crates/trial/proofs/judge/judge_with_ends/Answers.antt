@@ -44,12 +44,12 @@ returns-then-out-states g c =
 pub evaluate-ends-requires-clause-chained : goal.evaluate-ends-requires-clause-chained
 evaluate-ends-requires-clause-chained g c =
     let b = lent c.args.records.now c.args.scratch.now c.args.out.now in
-    let twice = read_twice _ _ _ _ _ c.in_ok-count.ensures c.in_ok-read_formula.ensures.answer.1 in
+    let twice = read_twice _ _ _ _ _ c.in_ok-count.ensures c.in_ok-read_formula.ensures.1 in
     (parts twice.formula, filled_chained (g.S.Source.model c.args.source.now) (g.S.Source.lawful c.args.source.now) c.args.text.now b _ _ twice)
 
 pub overflow_sub-count : goal.overflow_sub-count
 overflow_sub-count g c =
-    let twice = read_twice _ _ _ _ _ c.in_ok-count.ensures c.in_ok-read_formula.ensures.answer.1 in
+    let twice = read_twice _ _ _ _ _ c.in_ok-count.ensures c.in_ok-read_formula.ensures.1 in
     let n = twice.number in
     let some = some_part twice.formula in
     omega (arith, n, some)
@@ -59,7 +59,7 @@ of-requires g c =
     let m = g.S.Source.model c.args.source.now in
     let l = g.S.Source.lawful c.args.source.now in
     let b = lent c.args.records.now c.args.scratch.now c.args.out.now in
-    let twice = read_twice _ _ _ _ _ c.in_ok-count.ensures c.in_ok-read_formula.ensures.answer.1 in
+    let twice = read_twice _ _ _ _ _ c.in_ok-count.ensures c.in_ok-read_formula.ensures.1 in
     let chain = filled_chained m l c.args.text.now b _ _ twice in
     subst (λ n. HasRow n (c.evaluate-ends.new.scratch ++ drop (c.in_ok-count.count * c.states-states.result) c.args.scratch.now) (c.in_ok-count.count - 1)) (sym c.states-states.ensures)
     (last_there m l c.args.text.now b _ _ twice c.evaluate-ends.new.scratch _ (c.evaluate-ends.ensures.rows (parts twice.formula) chain))
@@ -71,7 +71,7 @@ returns g c =
     let states = c.states-states.ensures in
     let enough = c.if-scratch-count.false in
     let b = lent c.args.records.now c.args.scratch.now c.args.out.now in
-    let twice = read_twice _ _ _ _ _ c.in_ok-count.ensures c.in_ok-read_formula.ensures.answer.1 in
+    let twice = read_twice _ _ _ _ _ c.in_ok-count.ensures c.in_ok-read_formula.ensures.1 in
     let bytes : c.in_ok-count.count * c.states-states.result ≡ size twice.formula * m.states = ap (λ k. k * c.states-states.result) twice.number ∙ ap (λ k. size twice.formula * k) states in
     let chain = filled_chained m l c.args.text.now b _ _ twice in
     let judged =
