@@ -21,7 +21,7 @@ use Rattle.formula.specs.Records.{size, records}
 use Rattle.formula.specs.Questions.{first_large, first_unbounded, placed, fault_by, formula_fault}
 use Rattle.formula.specs.Places.{LargeNumber, UnboundedUntil}
 use Rattle.formula.specs.Readings.{overlaid, StateRead, StateReads}
-use Rattle.formula.specs.Answers.{Begins, NoFormula, WholeRead, Within, PlaceIsFirst, Accepted, Faulty, FormulaAnswer, JudgeAnswer}
+use Rattle.formula.specs.Answers.{Begins, NoFormula, WholeRead, PlaceIsFirst, Accepted, Faulty, FormulaAnswer, JudgeAnswer}
 use Rattle.formula.proofs.Forms.{state_word, length_records}
 use Rattle.formula.proofs.Limits.{limits}
 use Rattle.formula.proofs.Places.{FirstIfAny, places}

@@ -1,5 +1,5 @@
 -- What reading a whole text as a formula answers.
-use Rattle.std.specs.Prelude.{◌≡◌, ℕ, ◌<◌, ◌≤◌, ◌↔◌, List, ◌++◌, length, take, Some, None, Ok, Err, Result}
+use Rattle.std.specs.Prelude.{◌≡◌, ℕ, ◌<◌, ◌≤◌, List, ◌++◌, length, take, Some, Ok, Err, Result}
 use Rattle.model.specs.Mdp.{over}
 use Rattle.theory.specs.Formulas.{Formula, LawfulFormula}
 use Rattle.grammar.specs.Spelling.{print, Spelled}

@@ -1,5 +1,5 @@
 -- The first number of a text above its limit, and the first `P` that may not stand there, told by what the text spells.
-use Rattle.std.specs.Prelude.{◌≡◌, ℕ, ◌+◌, ◌<◌, ◌≤◌, ◌⊎◌, List, ◌∷◌, ◌++◌, length, None, Some, Option}
+use Rattle.std.specs.Prelude.{◌≡◌, ℕ, ◌+◌, ◌<◌, ◌≤◌, ◌⊎◌, List, ◌∷◌, ◌++◌, length, None}
 use Rattle.theory.specs.Mixes.{whole}
 use Rattle.theory.specs.Formulas.{Comparison, at_most, Formula, PathFormula, probability, until_within, until, extremal, most_steps}
 use Rattle.grammar.specs.Words.{Stands}

@@ -1,5 +1,5 @@
 -- From what judging a text answers to what is answered of its report.
-use Rattle.std.proofs.Common.{◌≡◌, ℕ, ◌*◌, ◌<◌, ◌≤◌, List, length, get_or, None, Some, Err, Ok, Result, Option, map, sym, refl, ap, ◌∙◌, subst, arith, ltb, mul-le-mul_right, IfOk, String, string_bytes}
+use Rattle.std.proofs.Common.{◌≡◌, ℕ, ◌*◌, ◌≤◌, List, length, Err, Ok, Result, Option, map, sym, refl, ap, ◌∙◌, subst, arith, ltb, mul-le-mul_right, IfOk, String, string_bytes}
 use Rattle.std.specs.declared.alloc.Global.{Global}
 use Rattle.std.specs.declared.alloc.AllocError.{AllocError}
 use Rattle.std.proofs.lemmas.List.FromFn.{length-map-range_with_len}

@@ -1,18 +1,13 @@
 -- What is written of a line is made of lines that keep the promise, and so is what is written of a list.
-use Rattle.std.proofs.Common.{◌≡◌, ◌≢◌, ℕ, zero, suc, ◌+◌, ◌-◌, ◌<◌, ◌≤◌, ◌⊎◌, inl, inr, ⊎_elim, Bool, true, false, cond, not, eqb, leb, ◌&&◌, ◌||◌, List, [], ◌∷◌, ◌++◌, length, get_or, take, drop, replicate, map, Some, None, Option, codes, decimal, sym, refl, ap, ◌∙◌, subst, append_assoc, append-nil, arith}
+use Rattle.std.proofs.Common.{◌≡◌, ◌≢◌, ℕ, ◌+◌, ◌-◌, ◌<◌, inl, inr, ⊎_elim, true, false, eqb, leb, ◌||◌, List, [], ◌∷◌, ◌++◌, length, get_or, take, drop, replicate, map, Option, codes, decimal, sym, refl, ap, ◌∙◌, subst, append_assoc, append-nil, arith}
 use Rattle.std.proofs.lemmas.List.{take-append-drop}
-use Rattle.std.specs.Prelude.{All}
-use Rattle.std.specs.List.{list_all}
-use Rattle.std.specs.Io.{StartsWith}
-use Rattle.std.proofs.lemmas.Bool.{cases_Bool, cond-true, cond-false, cond_both, ne_eqb, eqb-true, eq-eqb, and_parts, leb-true, both_ways}
+use Rattle.std.proofs.lemmas.Bool.{cases_Bool, cond-false, cond_both, eqb-true, and_parts, leb-true, both_ways}
 use Rattle.std.proofs.lemmas.List.Elements.{All-nil, All-head, All-tail, All-map, All-get_or}
 use Rattle.std.proofs.lemmas.List.Sums.{AllPass-from_list_all}
 use Rattle.model.specs.Mdp.{Mdp, Lawful, Each}
 use Rattle.model.proofs.Lists.{each_append}
-use Rattle.theory.specs.Formulas.{Formula}
-use Rattle.text.specs.Cuts.{pieces}
 use Rattle.text.specs.Fields.{between}
-use Rattle.grammar.specs.Spelling.{print, Spelled}
+use Rattle.grammar.specs.Spelling.{print}
 use Rattle.records.specs.declared.fault.FormulaFault.{FormulaFault}
 use Rattle.records.specs.declared.fault.FormulaFault.TheVariants.{NoFormula, Number, Depth, Records, Until}
 use Rattle.records.specs.declared.fault.JudgeFault.{JudgeFault}
@@ -21,21 +16,21 @@ use Rattle.records.specs.Faults.{formula_fault_place, judge_fault_number, judge_
 use Rattle.trial.specs.Judging.{row_of}
 use Rattle.theory.specs.Found.{ends_of}
 use Rattle.printing.specs.Carets.{shown, under, marked}
-use Rattle.formula_text.specs.Words.{formula_words, judge_words, judge_line, judge_mark, judge_refusal}
+use Rattle.formula_text.specs.Words.{formula_words, judge_words, judge_line, judge_mark}
 use Rattle.limits_text.specs.declared.summary.Summary.{Summary}
 use Rattle.limits_text.specs.Summaries.{summary_line, summary_text}
 use Rattle.limits_text.specs.declared.item.Item.{Item}
 use Rattle.limits_text.specs.declared.item.Item.TheVariants as item
 use Rattle.limits_text.specs.declared.outcome.Outcome.{Outcome}
 use Rattle.limits_text.specs.declared.outcome.Outcome.TheVariants as outcome
-use Rattle.limits_text.specs.Lines.{list_lines, item_of}
+use Rattle.limits_text.specs.Lines.{item_of}
 use Rattle.limits_text.specs.Promise.{IsHeading, Promise}
-use Rattle.limits_text.specs.Reports.{formula_report, refusal_report, JudgedReport, ReportAnswer, ItemAnswer, LineAnswer, numbered}
-use Rattle.limits_text.specs.Lists.{Written, nothing, BeginsReport, LineWritten, LinesWritten, LineBegun, LinesBegun}
+use Rattle.limits_text.specs.Reports.{refusal_report, JudgedReport, ReportAnswer, ItemAnswer, LineAnswer, numbered}
+use Rattle.limits_text.specs.Lists.{Written, BeginsReport, LinesWritten, LineBegun, LinesBegun}
 use Rattle.limits_text.proofs.Printable.{is_graphic, print_graphic}
 use Rattle.limits_text.proofs.Pieces.{Lacks, ended, ended-append}
 use Rattle.limits_text.proofs.StateLines.{lacks_low, number_lacks, tested_lacks, both_lack, blanks_lack, heading_line, lines_behind, report_ended, report_lacks}
-use Rattle.limits_text.proofs.Promising.{may_begin, IsPlain, plain_by_first, Keeps, keeps_plain, keeps_unheaded, keeps_none, report_keeps, Covers, covered}
+use Rattle.limits_text.proofs.Promising.{may_begin, IsPlain, plain_by_first, Keeps, keeps_plain, keeps_unheaded, keeps_none, report_keeps, covered}
 
 -- bytes that are lines, and in front of lines that keep the promise keep it
 pub record AreKept (m : Mdp) (bytes : List ℕ) : Type 0 where

@@ -1,20 +1,20 @@
 -- Lines that keep the promise: each row of a formula's table among them means what it says.
-use Rattle.std.proofs.Common.{◌≡◌, ◌≢◌, ℕ, inl, inr, zero, suc, ◌+◌, ◌<◌, ◌≤◌, ◌⊎◌, ⊎_elim, Bool, true, false, cond, eqb, leb, ◌&&◌, ◌||◌, List, [], ◌∷◌, ◌++◌, length, get_or, Some, None, Option, codes, decimal, sym, refl, ap, ◌∙◌, subst, append-nil, zero-add, length-append, arith}
-use Rattle.std.proofs.lemmas.Bool.{cases_Bool, cond_both, both_ways, eqb-true, eq-eqb, or_left, or_right, and_from, le-leb}
+use Rattle.std.proofs.Common.{◌≡◌, ◌≢◌, ℕ, inl, inr, zero, suc, ◌+◌, ◌<◌, ◌≤◌, Bool, true, false, eqb, leb, ◌&&◌, ◌||◌, List, [], ◌∷◌, ◌++◌, length, get_or, Some, None, Option, codes, decimal, sym, refl, ap, ◌∙◌, subst, append-nil, zero-add, length-append, arith}
+use Rattle.std.proofs.lemmas.Bool.{cases_Bool, cond_both, both_ways, eqb-true, or_right, and_from, le-leb}
 use Rattle.std.proofs.lemmas.Fmt.{decimal_injective}
 use Rattle.std.proofs.lemmas.List.{get_or_append_left}
 use Rattle.model.specs.Mdp.{Mdp, Lawful, Each}
 use Rattle.model.proofs.Lists.{each_append}
 use Rattle.theory.specs.Mixes.{whole}
 use Rattle.theory.specs.Ends.{held, lower, upper, next_lower, next_upper}
-use Rattle.theory.specs.Formulas.{Comparison, below, at_most, above, at_least, Formula, truth, label, negation, conjunction, probability, next, until_within, until, Holds}
+use Rattle.theory.specs.Formulas.{Comparison, below, at_most, above, at_least, Formula, truth, label, negation, conjunction, probability, next, until_within, until}
 use Rattle.theory.specs.Verdicts.{asked}
 use Rattle.theory.proofs.WithoutSteps.{held_lawful}
 use Rattle.theory.specs.Found.{verdicts, TwoEnds, ends_of, BoundsFormula}
 use Rattle.theory.proofs.Judge.{formula_ends_bound}
 use Rattle.theory.proofs.Near.{one_set}
 use Rattle.theory.proofs.Rounds.{first_allowed}
-use Rattle.text.specs.Cuts.{pieces, piece}
+use Rattle.text.specs.Cuts.{pieces}
 use Rattle.grammar.specs.Spelling.{print, Spelled}
 use Rattle.grammar.proofs.Readings.{one_reading}
 use Rattle.trial.specs.Judging.{row_of}
@@ -30,7 +30,7 @@ use Rattle.limits_text.specs.Outcomes.{counts_of}
 use Rattle.limits_text.specs.Tables.{verdict_word, units_at}
 use Rattle.limits_text.specs.Reports.{formula_report}
 use Rattle.limits_text.proofs.Printable.{print_graphic}
-use Rattle.limits_text.specs.Promise.{words, IsHeading, HasLine, HasRow, TellsVerdict, TellsEnds, RowPromise, Promise}
+use Rattle.limits_text.specs.Promise.{IsHeading, HasLine, RowPromise, Promise}
 use Rattle.limits_text.proofs.Pieces.{Lacks, piece_stays, ended, pieces_ended}
 use Rattle.limits_text.proofs.StateLines.{end_words, row_of_state, row_words, heading_line, counts_line, rows_from, rows_length, row_there, lines_behind, report_ended, report_lacks, lacks_low}
 
@@ -91,9 +91,10 @@ ends_few m l (probability c b (next f)) s h =
 ends_few m l (probability c b (until_within k f g)) s h =
     let v = verdicts m f in
     let w = verdicts m g in
-    subst (λ (prefer : ℕ → ℕ → Bool). (lower prefer v.sure w.sure k m s ≤ whole) × (upper prefer v.possible w.possible k m s ≤ whole)) (asked_preferred c)
-    (end_within Down (preferred c) (held v.sure w.sure m) (held_lawful v.sure w.sure m l) w.sure k s h,
-    end_within Up (preferred c) (held v.possible w.possible m) (held_lawful v.possible w.possible m l) w.possible k s h)
+    subst (λ (prefer : ℕ → ℕ → Bool). (lower prefer v.sure w.sure k m s ≤ whole) × (upper prefer v.possible w.possible k m s ≤ whole)) (asked_preferred c) (
+      end_within Down (preferred c) (held v.sure w.sure m) (held_lawful v.sure w.sure m l) w.sure k s h,
+      end_within Up (preferred c) (held v.possible w.possible m) (held_lawful v.possible w.possible m l) w.possible k s h,
+    )
 ends_few m l (probability c b (until f g)) s h = tt
 
 -- the ends that a row tells are those of the formula there
@@ -101,10 +102,12 @@ ends_told : (two : Option TwoEnds) (s lo hi : ℕ) → FewUnits (units_at two s)
     ◌≡◌ {A = List (List ℕ)} (a ∷ b ∷ end_words (units_at two s)) (c ∷ d ∷ decimal lo ∷ decimal hi ∷ []) →
     (ends : TwoEnds) × (two ≡ Some ends) × (ends.0 s ≡ lo) × (ends.1 s ≡ hi)
 ends_told None s lo hi few low high a b c d e = absurd (let h : ◌≡◌ {A = ℕ} 2 4 = ap length e in omega arith)
-ends_told (Some ends) s lo hi few low high a b c d e =
-    (ends, refl,
-    decimal_injective (ends.0 s) lo (omega (arith, few.0)) (omega arith) (ap (λ ws. get_or ws 2 []) e),
-    decimal_injective (ends.1 s) hi (omega (arith, few.1)) (omega arith) (ap (λ ws. get_or ws 3 []) e))
+ends_told (Some ends) s lo hi few low high a b c d e = (
+  ends,
+  refl,
+  decimal_injective (ends.0 s) lo (omega (arith, few.0)) (omega arith) (ap (λ ws. get_or ws 2 []) e),
+  decimal_injective (ends.1 s) hi (omega (arith, few.1)) (omega arith) (ap (λ ws. get_or ws 3 []) e),
+)
 
 -- may a formula's text begin with this byte: `!` (33), `(` (40), `P` (80), a letter from a (97) to p, or the t of `true` (116)?
 abbrev pub may_begin : ℕ → Bool

@@ -1,6 +1,5 @@
 -- The report of a formula as lines, and the words of those that tell of a state.
-use Rattle.std.proofs.Common.{◌≡◌, ◌≢◌, ℕ, zero, suc, ◌+◌, ◌-◌, ◌<◌, ◌≤◌, Bool, true, false, cond, not, eqb, leb, ◌&&◌, List, [], ◌∷◌, ◌++◌, length, get_or, replicate, Some, None, Option, codes, decimal, sym, refl, ap, ◌∙◌, append_assoc, add-zero, arith}
-use Rattle.std.specs.Prelude.{All}
+use Rattle.std.proofs.Common.{◌≡◌, ◌≢◌, ℕ, zero, suc, ◌+◌, ◌-◌, ◌<◌, true, not, eqb, leb, List, [], ◌∷◌, ◌++◌, length, get_or, replicate, Some, None, Option, codes, decimal, sym, refl, ap, ◌∙◌, append_assoc, add-zero, arith}
 use Rattle.std.specs.List.{list_all}
 use Rattle.std.proofs.lemmas.Bool.{cond_both, and_parts, leb-true, not-true, both_ways, eq-eqb}
 use Rattle.std.proofs.lemmas.List.Elements.{All-nil, All-append, All-weaker, All-replicate}
@@ -12,9 +11,9 @@ use Rattle.printing.specs.Layouts.{laid}
 use Rattle.limits_text.specs.declared.outcome.Counts.{Counts}
 use Rattle.limits_text.specs.Cells.{at_right, at_left}
 use Rattle.limits_text.specs.Outcomes.{counts_of, counts_text}
-use Rattle.limits_text.specs.Tables.{verdict_word, verdict_cells, state_line, heading, units_at, table}
+use Rattle.limits_text.specs.Tables.{verdict_word, verdict_cells, state_line, heading, units_at}
 use Rattle.limits_text.specs.Reports.{formula_report}
-use Rattle.limits_text.specs.Promise.{words, IsHeading}
+use Rattle.limits_text.specs.Promise.{words}
 use Rattle.limits_text.proofs.Printable.{is_graphic, AreGraphic, digits_graphic, some_digit}
 use Rattle.limits_text.proofs.Pieces.{Lacks, word_parted, word_alone, words_after_blanks, word_and_blanks, ended, ended-append}
 
@@ -195,5 +194,11 @@ module _ (two : Option TwoEnds) where
 
   -- no line of it has a line feed, if the text has none
   pub report_lacks : (text row : List ℕ) → Lacks 10 text → Each (Lacks 10) (text ∷ heading_line two ∷ lines_behind row)
-  report_lacks text row none = (none, (heading_lacks two, each_append (Lacks 10) (rows_from 0 row) (counts_line (counts_of row) ∷ [] ∷ [])
-      (rows_lack 0 row) (counts_lack (counts_of row), (All-nil (λ b. b ≢ 10), tt))))
+  report_lacks text row none = (
+    none,
+    (
+      heading_lacks two,
+      each_append (Lacks 10) (rows_from 0 row) (counts_line (counts_of row) ∷ [] ∷ [])
+          (rows_lack 0 row) (counts_lack (counts_of row), (All-nil (λ b. b ≢ 10), tt)),
+    ),
+  )

@@ -1,21 +1,14 @@
 -- Calls that are played one after another: what is so of those so far, and what follows where all are.
-use Rattle.std.proofs.Common.{◌≡◌, ℕ, ◌+◌, ◌<◌, ◌≤◌, Bool, List, length, take, set, get_or, Some, None, Option, refl, sym, ◌∙◌, ap, below_more, ◌≢◌, arith}
+use Rattle.std.proofs.Common.{◌≡◌, ℕ, ◌+◌, ◌<◌, ◌≤◌, List, length, take, set, get_or, Some, None, Option, refl, sym, ◌∙◌, ap, below_more, ◌≢◌, arith}
 use Rattle.std.specs.Prelude.{slice_get}
 use Rattle.std.proofs.lemmas.Option.{slice_get-get_or, get_or_from_slice_get, slice_get_within}
 use Rattle.std.proofs.lemmas.List.{take-set-le, get_or-set_same, get_or-set_other, length-set}
 use Rattle.model.specs.Mdp.{Mdp, Lawful}
-use Rattle.theory.specs.Mixes.{whole}
-use Rattle.theory.specs.Rounds.{rounds}
-use Rattle.theory.specs.Ends.{held, start}
+use Rattle.theory.specs.Ends.{held}
 use Rattle.theory.proofs.WithoutSteps.{held_lawful}
-use Rattle.rules.specs.declared.rounding.Rounding.{Rounding}
 use Rattle.rules.specs.declared.rounding.Rounding.TheVariants.{Down, Up}
-use Rattle.rules.specs.declared.part.Part.{Part}
-use Rattle.rules.specs.declared.preference.Preference.{Preference}
-use Rattle.rules.specs.Parts.{prefers_number, prefers_part, mix_rounded, in_parts}
 use Rattle.trial.specs.Queries.{Query, marked}
 use Rattle.trial.specs.Aims.{preference_of}
-use Rattle.trial.specs.Rows.{start_part}
 use Rattle.trial.proofs.PathRows.{end_within}
 use Rattle.trial.proofs.Queries.{bounds_for}
 use Rattle.replay.specs.declared.call.Call.{Call}

@@ -1,10 +1,10 @@
 -- What a trial answers, and what judging leaves, means what it says.
-use Rattle.std.proofs.Common.{◌≡◌, ◌≢◌, ℕ, zero, suc, ◌+◌, ◌-◌, ◌*◌, ◌<◌, ◌≤◌, Bool, true, false, not, ◌&&◌, List, [], ◌∷◌, ◌++◌, length, drop, get_or, None, Some, Option, sym, refl, ap, ◌∙◌, subst, append_assoc, length-append, add-zero, arith}
+use Rattle.std.proofs.Common.{◌≡◌, ◌≢◌, ℕ, zero, suc, ◌+◌, ◌-◌, ◌*◌, ◌<◌, ◌≤◌, Bool, true, false, List, [], ◌∷◌, ◌++◌, length, drop, get_or, None, Some, Option, sym, refl, ap, ◌∙◌, subst, append_assoc, length-append, add-zero, arith}
 use Rattle.std.specs.Prelude.{slice_get, slice_index_or, IsSomeAnd, IfSome}
 use Rattle.model.specs.Mdp.{Mdp, Lawful}
 use Rattle.model.proofs.Copies.{over_front}
 use Rattle.theory.specs.Ends.{lower, upper}
-use Rattle.theory.specs.Formulas.{Comparison as Compared, Formula, truth, label, negation, conjunction, probability, next, until_within, until, has_label}
+use Rattle.theory.specs.Formulas.{Comparison as Compared, Formula, truth, label, negation, conjunction, probability, next, until_within, until}
 use Rattle.theory.specs.Verdicts.{asked, fits, harder_end, easier_end}
 use Rattle.theory.specs.Distances.{Decided, Undecided, NearBound}
 use Rattle.theory.specs.Found.{verdicts, TwoEnds, ends_of, BoundsFormula}

@@ -1,12 +1,11 @@
 -- What the answers of a trial mean for all adversaries of the source's model: said of the values that are answered, and of the
 -- bytes and records that are left in the buffers.
-use Rattle.std.specs.Prelude.{◌≡◌, ◌≢◌, ℕ, ◌-◌, ◌*◌, ◌^◌, ◌<◌, ◌≤◌, Bool, List, All, length, Some, Option, IsSomeAnd, ◌==◌, slice_get, slice_index}
+use Rattle.std.specs.Prelude.{◌≡◌, ◌≢◌, ℕ, ◌-◌, ◌*◌, ◌^◌, ◌<◌, ◌≤◌, List, All, length, Some, Option, IsSomeAnd, ◌==◌, slice_get, slice_index}
 use Rattle.std.specs.List.{count_by}
 use Rattle.model.specs.Mdp.{Mdp}
 use Rattle.theory.specs.Adversaries.{Adversary, Allowed}
-use Rattle.theory.specs.Tallies.{tally, next_tally}
 use Rattle.theory.specs.Mixes.{whole}
-use Rattle.theory.specs.Formulas.{Comparison, Formula, truth, label, negation, conjunction, probability, next, until_within, until, Fits, SetOf, Holds, HasOneSet}
+use Rattle.theory.specs.Formulas.{Comparison, Formula, Fits, Holds, HasOneSet}
 use Rattle.theory.specs.Verdicts.{VerdictSets, Judged}
 use Rattle.theory.specs.Distances.{ValueWithin, NearBound, Undecided}
 use Rattle.grammar.specs.Spelling.{print, Spelled}
