@@ -40,7 +40,3 @@ written_front {o} {o'} {text} {at} w = record {
   begins = subst (λ k. take k text ≡ take at text) (sym (length-take-le at text w.within)) refl;
   appended = w.appended;
 }
-
--- nothing is a beginning of a text
-pub front_none : (o : Option (List ℕ)) (text : List ℕ) → AppendsFront o o text
-front_none o text = record { front = []; begins = refl; appended = Appends-nil o }
