@@ -1,5 +1,5 @@
 -- What `check` prints keeps its promise.
-use Rattle.std.proofs.Common.{◌≡◌, ℕ, ◌⊎◌, inl, inr, ⊎_elim, Bool, cond, eqb, List, [], ◌∷◌, ◌++◌, Option, None, Some, Result, Ok, Err, OnErr, IfOk, MatchOption, codes, sym, refl, ap, ◌∙◌, subst}
+use Rattle.std.proofs.Common.{◌≡◌, ℕ, ◌⊎◌, inl, inr, ⊎_elim, eqb, List, [], ◌∷◌, ◌++◌, Option, None, Some, Result, Ok, Err, OnErr, IfOk, MatchOption, codes, sym, refl, ap, ◌∙◌, subst}
 use Rattle.std.specs.Result.{result_map_both}
 use Rattle.std.proofs.lemmas.Bool.{cond_both}
 use Rattle.model.specs.Mdp.{Mdp}
@@ -19,16 +19,14 @@ use Rattle.limits_text.specs.Lines.{list_lines}
 use Rattle.limits_text.specs.Promise.{Promise}
 use Rattle.limits_text.specs.Lists.{Written, Writes, formula_count}
 use Rattle.limits_text.proofs.KeptPromises.{both_kept, lines_kept, summary_kept, kept_begins, promised}
-use Rattle.console.specs.declared.command.Command.{Command}
 use Rattle.console.specs.declared.command.Command.TheVariants.{Check}
-use Rattle.console.specs.declared.command.Mistake.{Mistake}
 use Rattle.console.specs.declared.command.ModelName.{ModelName}
 use Rattle.console.specs.declared.command.ModelName.TheVariants.{File, Ladder}
 use Rattle.console.specs.declared.reply.Reply.{Reply}
 use Rattle.console.specs.Commands.{model_named, command_of, word_at}
 use Rattle.console.specs.Helps.{no_file_text}
 use Rattle.console.specs.Replies.{Answer, answer_of, printed, refused, wrong, summary_answer, ladder_found, TextFound, ModelFound, LimitsAnswer, CommandAnswer, Answers, CommandBegun, Begun}
-use Rattle.console.specs.Promise.{IsDescribed, IsNamed, ChecksTruly, IsRefusal, printed_by, Promised}
+use Rattle.console.specs.Promise.{IsNamed, ChecksTruly, IsRefusal, printed_by, Promised}
 
 -- a text gives only the model of a content that it describes
 text_named : (text : List ℕ) (m : Mdp) → TextFound text (Ok m) → IsNamed File (Some text) m

@@ -1,5 +1,5 @@
 -- The answer on a text comes from the model that it describes, and commands that write nothing leave the writers.
-use Rattle.std.proofs.Common.{◌≡◌, ℕ, ◌+◌, inr, List, [], ◌∷◌, map, length, Option, None, Some, Result, Ok, Err, OnErr, sym, refl, ap, ◌∙◌, subst, MatchOption}
+use Rattle.std.proofs.Common.{◌≡◌, ℕ, ◌+◌, inr, List, [], ◌∷◌, map, length, Option, None, Some, Result, Ok, Err, sym, refl, ap, ◌∙◌, subst, MatchOption}
 use Rattle.std.specs.List.{range_with_len}
 use Rattle.std.proofs.lemmas.List.FromFn.{fill_by_all}
 use Rattle.std.proofs.KnownBytes.{Appends-nil}
