@@ -41,6 +41,10 @@ R = model_of (content_of (lines retry))
 -- the figures on T
 of_t : OfThirds T
 of_t = record {
+  tally_1 = refl;
+  tally_2 = refl;
+  best_first = refl;
+  worst_first = refl;
   best_1 = refl;
   worst_1 = refl;
   best_2 = refl;

@@ -1,7 +1,8 @@
 -- Figures worked out by hand on three small models: what a trial over them answers, and what judging some texts finds.
-use Rattle.std.specs.Prelude.{◌≡◌, ℕ, List, None, Ok, codes, Option, slice_index}
+use Rattle.std.specs.Prelude.{◌≡◌, ℕ, List, None, Ok, codes, Option, slice_index, true}
 use Rattle.model.specs.Mdp.{Mdp}
-use Rattle.theory.specs.Formulas.{Formula, truth, label, Holds}
+use Rattle.theory.specs.Tallies.{tally}
+use Rattle.theory.specs.Formulas.{Formula, truth, label, Holds, has_label}
 use Rattle.text.specs.Contents.{Content, model_of}
 use Rattle.text.specs.Texts.{Describes}
 use Rattle.ladder.specs.Ladders.{ladder_model}
@@ -60,9 +61,18 @@ pub record Judges (m : Mdp) (text : List ℕ) (s : ℕ) (v : Verdict) : Type 0 w
   pub found : slice_index (row_of m formula) s ≡ verdict_number v
   pub tells : Tells v (Holds m formula s)
 
--- the figures on T: both for the best and for the worst the ends are these after one round and after two; and after one, for the worst, `>=` is a yes
--- with the lower end for its bound and undecided with the upper one, where `>` is a no
+-- the tally of so many steps towards label a, from state 0 and through any states, of the adversary that always takes choice 0
+abbrev pub tally_to_a : Mdp → ℕ → ℕ
+tally_to_a m k = tally (λ s. true) (has_label m 0) k m (λ p. 0) 0
+
+-- the figures on T: the tally is 1 out of 3 after one step and 5 out of 9 after two; both for the best and for the worst the ends are these after no
+-- round, after one and after two; and after one, for the worst, `>=` is a yes with the lower end for its bound and undecided with the upper one, where
+-- `>` is a no
 pub record OfThirds (m : Mdp) : Type 0 where
+  pub tally_1 : tally_to_a m 1 ≡ 1
+  pub tally_2 : tally_to_a m 2 ≡ 5
+  pub best_first : Ends m Best 0 0 0
+  pub worst_first : Ends m Worst 0 0 0
   pub best_1 : Ends m Best 1 333333333 333333334
   pub worst_1 : Ends m Worst 1 333333333 333333334
   pub best_2 : Ends m Best 2 555555555 555555556

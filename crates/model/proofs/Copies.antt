@@ -1,7 +1,7 @@
 -- A list that is copied over the front of another, element by element or as a whole.
-use Rattle.std.proofs.Common.{◌≡◌, ℕ, ◌+◌, ◌<◌, ◌≤◌, List, ◌++◌, length, get_or, take, drop, set, ap, ◌∙◌, zero-add, arith}
+use Rattle.std.proofs.Common.{◌≡◌, ℕ, ◌+◌, ◌<◌, ◌≤◌, List, ◌++◌, length, min, get_or, take, drop, set, ap, ◌∙◌, zero-add, arith}
 use Rattle.std.proofs.Math.Seq.{take-append_seam, drop-append_seam}
-use Rattle.std.proofs.lemmas.List.{take_all}
+use Rattle.std.proofs.lemmas.List.{take_all, length-take}
 use Rattle.std.proofs.lemmas.List.Edits.{paste_more}
 use Rattle.model.specs.Mdp.{over}
 
@@ -22,3 +22,9 @@ module _ {A : Type 0} (xs under : List A) (fits : length xs ≤ length under) wh
   -- and has the rest behind it
   pub drop_over : (n : ℕ) → n ≡ length xs → drop n (over xs under) ≡ drop n under
   drop_over n e = rw e (ap (drop (length xs)) over_front ∙ drop-append_seam xs (drop (length xs) under))
+
+-- as much of a list as another has room for stands at its front
+pub front_over : {X : Type 0} (new xs : List X) (n : ℕ) → n ≡ min (length new) (length xs) → take n (over new xs) ≡ take (length xs) new
+front_over new xs n e =
+    let all : n ≡ length (take (length xs) new) = simp length-take (omega arith) in
+    ap (λ k. take k (over new xs)) all ∙ take-append_seam (take (length xs) new) (drop (length new) xs)

@@ -14,6 +14,7 @@ use crate::step::one_round;
 use model::branch::Branch;
 use model::limits::STATES;
 use model::source::Source;
+use rules::denominator::Denominator;
 use rules::preference::Preference;
 use rules::rule::Rule;
 
@@ -34,9 +35,10 @@ fn run<S: Source, B: Backup>(
     if count > MOST_ROUNDS {
         return Err(RoundsFault::Count);
     }
+    let denominator = Denominator::of(source);
     let mut buffer = [Branch::default(); STATES];
     for _ in 0..count {
-        one_round(source, backup, values, spare, &mut buffer);
+        one_round(source, denominator, backup, values, spare, &mut buffer);
     }
     Ok(())
 }

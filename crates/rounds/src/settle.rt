@@ -7,6 +7,7 @@ use crate::step::one_round;
 use model::branch::Branch;
 use model::limits::STATES;
 use model::source::Source;
+use rules::denominator::Denominator;
 use rules::marks::Marks;
 
 // Rounds of marks until a round changes no mark. It answers which round that was, the first one being round 1; afterwards
@@ -24,6 +25,7 @@ pub fn settle<S: Source>(
     let states = source.states();
     check_lengths(states, marks.len(), spare.len())?;
     let backup = ByRule { rule };
+    let denominator = Denominator::of(source);
     let mut buffer = [Branch::default(); STATES];
     let mut done = 0;
     // The value of the loop: the number of the round that changed no mark, or none after one round more than there are states.
@@ -31,7 +33,7 @@ pub fn settle<S: Source>(
         if done > states {
             break None;
         }
-        one_round(source, &backup, marks, spare, &mut buffer);
+        one_round(source, denominator, &backup, marks, spare, &mut buffer);
         done += 1;
         if *marks == *spare {
             break Some(done);

@@ -1,15 +1,16 @@
 -- Which beginning of a field is a number of at most so many digits.
-use Rattle.std.proofs.Common.{◌≡◌, ℕ, zero, suc, ◌+◌, ◌^◌, ◌<◌, ◌≤◌, min, true, false, eqb, List, [], ◌∷◌, length, get_or, take, Ok, Result, decimal, sym, refl, ap, ◌∙◌, inl, inr, ⊎_elim, arith}
-use Rattle.std.specs.Str.Parse.{digits_value, AllDigits, ParsesUnsigned}
+use Rattle.std.proofs.Common.{◌≡◌, ℕ, zero, suc, ◌+◌, ◌-◌, ◌*◌, ◌^◌, ◌<◌, ◌≤◌, min, true, false, eqb, List, [], ◌∷◌, length, get_or, take, decimal, sym, refl, ap, ◌∙◌, inl, inr, ⊎_elim, arith}
+use Rattle.std.specs.Str.Parse.{digits_value, AllDigits}
 use Rattle.std.specs.Int.{IsInRange}
-use Rattle.std.specs.Char.{is_ascii_digit}
+use Rattle.std.specs.Char.{is_ascii_digit, digit_value}
 use Rattle.std.specs.List.{prefix_len, starts_with}
-use Rattle.std.specs.Str.{IsUtf8, all_ascii_digits}
-use Rattle.std.proofs.lemmas.Fmt.{IsAscii-from_digits, decimal-digits_value, digits_decimal, decimal_nonempty, decimal_digit, length-decimal-le, first_decimal}
-use Rattle.std.proofs.lemmas.Str.{IsUtf8-from_ascii}
+use Rattle.std.specs.Str.{all_ascii_digits}
+use Rattle.std.proofs.lemmas.Fmt.{decimal-digits_value, digits_decimal, decimal_nonempty, decimal_digit, length-decimal-le, first_decimal}
+use Rattle.std.proofs.lemmas.Int.Digits.{digits_value_more}
+use Rattle.std.proofs.lemmas.Str.{digit_value_digit}
 use Rattle.std.proofs.lemmas.List.{length-take, length-take-le, get_or-take, take-take}
 use Rattle.std.proofs.lemmas.List.Sums.{prefix_len-le-length, prefix_len_stops}
-use Rattle.std.proofs.lemmas.Str.Parse.{IsNumeralModel, numerals_by_value, tells_all_ascii_digits, digit_at, digits_value_short, parse_gives}
+use Rattle.std.proofs.lemmas.Str.Parse.{IsNumeralModel, numerals_by_value, tells_all_ascii_digits, digit_at, digits_value_short}
 use Rattle.std.proofs.lemmas.Bool.{and_parts, and_from, cases_Bool, cases_lt, cond_both}
 use Rattle.std.proofs.lemmas.Bool.Decides.{nat_tests}
 use Rattle.text.specs.Fields.{numeral, amount, longest}
@@ -105,20 +106,29 @@ length_digits most xs other =
     no_digit : (c : ℕ) → is_ascii_digit c ≡ false → IsInRange 48 57 c → ⊥
     no_digit c f r = grind (arith, nat_tests)
 
--- a number is text
-pub number_text : (most : ℕ) (w : List ℕ) → Number most w → IsUtf8 w
-number_text most w n = IsUtf8-from_ascii w (IsAscii-from_digits w n.digits)
-
--- one that fits in so many bits is read by `parse`, of a text v with its bytes
-pub number_parsed : {E : Type 0} (most bits : ℕ) (w v : List ℕ) (r : Result ℕ E) → 10 ^ most ≤ 2 ^ bits → v ≡ w → ParsesUnsigned bits 10 v r → Number most w → r ≡ Ok (amount w)
-number_parsed most bits w v r fits e p n =
-    parse_gives decimals bits w r (rw e at p) (decimals.from w n.digits) n.some (omega (arith, fits, digits_value_short decimals w most (decimals.from w n.digits) n.few))
-
 -- a beginning of digits is digits
 digits_front : (k : ℕ) (w : List ℕ) → AllDigits 10 w → AllDigits 10 (take k w)
 digits_front zero w d = tt
 digits_front (suc k) [] d = tt
 digits_front (suc k) (c ∷ w) d = (d.0, digits_front k w d.1)
+
+-- what is read with the digit at i of a number of at most ten digits
+pub record Next (xs : List ℕ) (i : ℕ) : Type 0 where
+  pub digit : 48 ≤ get_or xs i 0
+  pub small : get_or xs i 0 ≤ 57
+  pub before : amount (take i xs) < 10 ^ 9
+  pub after : amount (take (i + 1) xs) ≡ amount (take i xs) * 10 + (get_or xs i 0 - 48)
+
+-- each digit of a number can be read
+pub next_digit : (xs : List ℕ) (i : ℕ) → Number 10 xs → i < length xs → Next xs i
+next_digit xs i n l =
+    let d = digit_at xs i n.digits l in
+    record {
+      digit = d.0;
+      small = d.1;
+      before = digits_value_short decimals (take i xs) 9 (decimals.from (take i xs) (digits_front i xs n.digits)) (omega (arith, length-take-le i xs (omega (arith, l)), n.few, l));
+      after = digits_value_more 10 xs i l ∙ ap (λ z. amount (take i xs) * 10 + z) (let e : digit_value (get_or xs i 0) ≡ get_or xs i 0 - 48 = omega (arith, digit_value_digit (get_or xs i 0) d) in e);
+    }
 
 -- a beginning of a number is a number
 pub numeral_front : (most k : ℕ) (w : List ℕ) → 0 < k → k ≤ length w → numeral most w ≡ true → numeral most (take k w) ≡ true
@@ -131,6 +141,12 @@ numeral_front most k w some l t =
       few = omega (arith, long, n.few);
       lead = λ z. let one = n.lead (sym (get_or-take k w 0 0 some) ∙ z) in omega (arith, long, one);
     })
+
+-- a number of at most so many digits is one of at most more
+pub numeral_more : (few most : ℕ) (w : List ℕ) → few ≤ most → numeral few w ≡ true → numeral most w ≡ true
+numeral_more few most w l t =
+    let n = number_from few w t in
+    number_to most w (record { digits = n.digits; some = n.some; few = omega (arith, l, n.few); lead = n.lead })
 
 -- a number is small
 pub numeral_small : (most : ℕ) (w : List ℕ) → numeral most w ≡ true → amount w < 10 ^ most

@@ -1,6 +1,6 @@
 -- The longest beginning of a list that passes a test.
 use Rattle.std.proofs.Common.{◌≡◌, ℕ, zero, suc, ◌<◌, ◌≤◌, Bool, true, false, ◌⊎◌, List, length, take, sym, refl, ap, ◌∙◌, inl, inr, ⊎_elim, arith}
-use Rattle.std.proofs.lemmas.List.{take_all}
+use Rattle.std.proofs.lemmas.List.{take_all, length-take-le}
 use Rattle.std.proofs.lemmas.Bool.{cond-true, cond-false, cond_both, cases_lt}
 use Rattle.text.specs.Fields.{longest_within, longest}
 
@@ -53,3 +53,8 @@ module _ (test : List ℕ → Bool) (xs : List ℕ) where
   pub whole_passes : 0 < longest test xs → length xs ≤ longest test xs → test xs ≡ true
   whole_passes some all =
       ⊎_elim (λ z. absurd (omega (arith, z))) (λ t. ap test (sym (take_all (longest test xs) xs all)) ∙ t) longest_passes
+
+  -- it passes, unless it is empty
+  pub longest_front : (n : ℕ) → n ≡ longest test xs → 0 < length (take n xs) → test (take n xs) ≡ true
+  longest_front n e some =
+      ⊎_elim (λ z. absurd (omega (arith, z, e, some, length-take-le n xs (omega (arith, e, longest_within_list))))) (λ t. ap (λ k. test (take k xs)) e ∙ t) longest_passes

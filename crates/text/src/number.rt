@@ -1,9 +1,8 @@
-ghost use Rattle.std.specs.Prelude.{◌≡◌, ◌≤◌};
-ghost use Rattle.text.specs.Fields.{numeral, longest, number_read, long_number_read, leading_number_read};
+ghost use Rattle.std.specs.Prelude.{◌≡◌, ◌≤◌, true};
+ghost use Rattle.text.specs.Fields.{numeral, amount, longest, number_read, long_number_read, leading_number_read};
 
 use crate::fault::FieldFault;
 use crate::lawful::check_lawful;
-use std::str;
 
 // The number that field `index` of a line writes: 0, or one to seven digits that do not start with 0. A field and its
 // index are no struct: what is cut is bytes, of which words and names are read without a number, so a struct would be taken
@@ -12,9 +11,8 @@ pub fn number(field: &[u8], index: usize) -> Result<u32, FieldFault>
     ensures { result ≡ number_read field.now index }
 {
     check_lawful(field, index, number_length(field, 7)).map_err(FieldFault::Number)?;
-    // Digits are text, and seven of them fit.
-    let digits = str::from_utf8(field).unwrap();
-    Ok(digits.parse().unwrap())
+    // Seven digits fit.
+    Ok(amount(field) as u32)
 }
 
 // The number that a word writes, if it does: 0, or one to ten digits that do not start with 0. No place is told where it
@@ -24,9 +22,7 @@ pub fn long_number(word: &[u8]) -> Option<u64>
     ensures { result ≡ long_number_read word.now }
 {
     check_lawful(word, 0, number_length(word, 10)).ok()?;
-    // Digits are text, and ten of them fit.
-    let digits = str::from_utf8(word).unwrap();
-    Some(digits.parse().unwrap())
+    Some(amount(word))
 }
 
 // The number of at most ten digits that a text begins with, as far as it goes, and its length; none where it begins with none.
@@ -34,7 +30,23 @@ pub fn leading_number(text: &[u8]) -> Option<(u64, usize)>
     ensures { result ≡ leading_number_read text.now }
 {
     let front = &text[..number_length(text, 10)];
-    Some((long_number(front)?, front.len()))
+    if front.is_empty() {
+        return None;
+    }
+    Some((amount(front), front.len()))
+}
+
+// The number that at most ten digits write. It is a loop over them: the library's `parse` takes a `str`, and so would read the
+// bytes once more to see that they are text.
+fn amount(digits: &[u8]) -> u64
+    requires { numeral 10 digits.now ≡ true }
+    ensures { result ≡ amount digits.now }
+{
+    let mut value = 0;
+    for digit in digits {
+        value = value * 10 + u64::from(*digit - b'0');
+    }
+    value
 }
 
 // The length of the longest beginning that is a number of at most so many digits; 0 where none is.

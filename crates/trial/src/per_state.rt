@@ -1,7 +1,6 @@
 ghost use Rattle.std.specs.Prelude.{◌≡◌, ℕ, ◌<◌, ◌≤◌, length, slice_index, slice_index_or};
 
 use model::limits::STATES;
-use std::array;
 
 // A value for each state that a source may have. It is an array of a fixed length, since nothing may want memory here: the
 // making of a trial cannot fail, and no call on one may fail for memory.
@@ -20,13 +19,12 @@ impl<T: Copy> PerState<T> {
         requires callable { F.IsAlwaysCallable f }
         ensures { (d : T) (s : ℕ) → s < length bytes.now → F.post f (slice_index bytes.now s) (slice_index_or result.values s d) }
     {
-        // The closure's own clauses say what it gives at a state that has a byte.
-        let values = array::from_fn(
-            |state|
-                requires { F.IsAlwaysCallable f }
-                ensures { state < length bytes.entry.now → F.post f (slice_index bytes.entry.now state) result }
-            { bytes.get(state).map_or(rest, |byte| f(*byte)) },
-        );
+        // Only the states that have a byte are gone through: `from_fn` would ask for each of the places. A value is written at its
+        // state's number, since after a `zip` over `iter_mut` a proof knows nothing of the values written.
+        let mut values = [rest; STATES];
+        for (state, byte) in bytes.iter().enumerate() {
+            values[state] = f(*byte);
+        }
         PerState { values }
     }
 

@@ -1,19 +1,12 @@
 use Rattle.std.proofs.Common.{arith, rules}
-use Rattle.std.proofs.lemmas.Result.{MatchResult-at_ok}
 use Rattle.text.proofs.Asking.{checked}
-use Rattle.text.proofs.Digits.{number_from, number_text, number_parsed}
+use Rattle.text.proofs.Digits.{numeral_small, numeral_more}
 use Rattle.text.proofs.number.number.Goals as goal
 
--- past the check, the field is a number, and so it is text
-pub unwrap-digits-requires : goal.unwrap-digits-requires
-unwrap-digits-requires c =
-    let field = c.args.field.now in
-    let t = number_text 7 field (number_from 7 field (checked _ tt tt _ _ c.check_lawful.ensures (search rules)).0) in
-    let h = c.from_utf8.ensures.cases in search rules
+-- past the check, the field is a number of at most ten digits
+pub amount-requires : goal.amount-requires
+amount-requires c = numeral_more 7 10 c.args.field.now (omega arith) (checked _ tt tt _ _ c.check_lawful.ensures (search rules)).0
 
--- the text is parsed
-pub unwrap-requires : goal.unwrap-requires
-unwrap-requires c =
-    let same = MatchResult-at_ok _ _ _ c.unwrap-digits.ensures c.from_utf8.ensures.cases in
-    let e = number_parsed 7 32 c.args.field.now _ _ (omega arith) same.0 c.parse.ensures.value.0 (number_from 7 c.args.field.now (checked _ tt tt _ _ c.check_lawful.ensures (search rules)).0) in
-    search rules
+-- and it is small
+pub overflow_cast-result : goal.overflow_cast-result
+overflow_cast-result c = omega (arith, numeral_small 7 c.args.field.now (checked _ tt tt _ _ c.check_lawful.ensures (search rules)).0, c.amount.ensures)
